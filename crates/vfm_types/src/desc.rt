@@ -1,0 +1,44 @@
+//! The description of a machine and of its move.
+
+use crate::{Flags, Jobs, Name, Queue, Shapes};
+
+/// One device of a described machine.
+#[derive(Debug, Drop)]
+pub struct DevShape {
+    pub name: Name,
+    pub flags: Flags,
+    /// Bytes of its BAR: 64 to 65,536, a multiple of 64.
+    pub bar: u32,
+    /// How many requests may be outstanding at a time: 1 to 8.
+    pub window: u8,
+    /// Whether the device can tell peer-to-peer DMA from other DMA.
+    pub tells: bool,
+    /// How many requests it accepts in all: at most 50,000.
+    pub budget: u32,
+    /// Which of its arcs fails, counted from 1; 0 for none. At most 3.
+    pub fails: u32,
+    pub jobs: Jobs,
+    pub queue: Queue,
+}
+
+/// A machine, its devices with their jobs, and the limits of its move.
+#[derive(Debug, Drop)]
+pub struct Desc {
+    /// Names the move in packets and frames.
+    pub session: u64,
+    /// Bytes of a page: a power of two from 16 to 4,096.
+    pub page: u32,
+    /// Pages of memory: 1 to 1,024.
+    pub pages: u32,
+    /// Channels that device state is sent over: 1 to 8.
+    pub channels: u32,
+    /// The packet version.
+    pub version: u16,
+    /// How many requests each device completes before the move may begin: at most 50,000.
+    pub begin: u32,
+    /// The most copying passes before the devices are stopped: at most 8.
+    pub rounds: u32,
+    /// A pass over at most so many pages is the last before the devices are stopped: at most 1,024.
+    pub threshold: u32,
+    pub devices: Shapes,
+}
