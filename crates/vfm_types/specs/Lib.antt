@@ -1,3 +1,10 @@
 pub mod State
+pub mod Paths
 pub mod Bytes
 pub mod PageSet
+pub mod Desc
+pub mod Region
+pub mod Job
+pub mod Machine
+pub mod Requests
+pub mod Serial

@@ -1,5 +1,5 @@
 -- Sets of pages below 1,024, as sixteen words of sixty-four bits.
-use Rattle.std.specs.Prelude.{ℕ, ◌+◌, ◌*◌, ◌/◌, ◌%◌, ◌^◌, ◌==◌, Bool, List, [], ◌∷◌, slice_index, suc, zero, if◌then◌else◌}
+use Rattle.std.specs.Prelude.{ℕ, ◌+◌, ◌/◌, ◌%◌, ◌^◌, ◌==◌, Bool, List, [], ◌∷◌, slice_index, suc, zero, if◌then◌else◌}
 
 -- the bit of a page: bit p mod 64 of word p div 64
 abbrev pub page_bit : List ℕ → ℕ → Bool
