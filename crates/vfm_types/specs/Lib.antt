@@ -5,6 +5,8 @@ pub mod PageSet
 pub mod Desc
 pub mod Region
 pub mod Job
+pub mod DescFault
+pub mod Valid
 pub mod Machine
 pub mod Requests
 pub mod Serial
