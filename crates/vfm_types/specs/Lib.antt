@@ -10,3 +10,11 @@ pub mod Valid
 pub mod Machine
 pub mod Requests
 pub mod Serial
+pub mod Least
+pub mod Phases
+pub mod Deliveries
+pub mod Outstanding
+pub mod Arcs
+pub mod Marks
+pub mod Blocks
+pub mod Words
