@@ -1,0 +1,4 @@
+pub mod Rules
+pub mod Legal
+pub mod Clean
+pub mod Ended

@@ -1,0 +1,2 @@
+//! The plain machine, which does one request at a time, and what a legal run of it is.
+#![tactic(auto)]
