@@ -1,6 +1,8 @@
 //! The description of a machine and of its move.
 
-use crate::{Flags, Jobs, Name, Queue, Shapes};
+ghost use Rattle.std.specs.Prelude.{◌≡◌, IfOk};
+
+use crate::{Flags, Jobs, Name, NoMemory, Queue, Shapes};
 
 /// One device of a described machine.
 #[derive(Debug, Drop)]
@@ -19,6 +21,27 @@ pub struct DevShape {
     pub fails: u32,
     pub jobs: Jobs,
     pub queue: Queue,
+}
+
+impl DevShape {
+    /// An equal device.
+    pub fn copy(&self) -> Result<DevShape, NoMemory>
+        ensures { IfOk result (λ copy. copy ≡ self.now) }
+    {
+        let jobs = self.jobs.copy()?;
+        let queue = self.queue.copy()?;
+        Ok(DevShape {
+            name: self.name.copy(),
+            flags: self.flags,
+            bar: self.bar,
+            window: self.window,
+            tells: self.tells,
+            budget: self.budget,
+            fails: self.fails,
+            jobs,
+            queue,
+        })
+    }
 }
 
 /// A machine, its devices with their jobs, and the limits of its move.
@@ -41,4 +64,24 @@ pub struct Desc {
     /// A pass over at most so many pages is the last before the devices are stopped: at most 1,024.
     pub threshold: u32,
     pub devices: Shapes,
+}
+
+impl Desc {
+    /// An equal description.
+    pub fn copy(&self) -> Result<Desc, NoMemory>
+        ensures { IfOk result (λ copy. copy ≡ self.now) }
+    {
+        let devices = self.devices.copy()?;
+        Ok(Desc {
+            session: self.session,
+            page: self.page,
+            pages: self.pages,
+            channels: self.channels,
+            version: self.version,
+            begin: self.begin,
+            rounds: self.rounds,
+            threshold: self.threshold,
+            devices,
+        })
+    }
 }

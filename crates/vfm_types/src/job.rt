@@ -1,5 +1,7 @@
 //! What a device can be asked to do by DMA, and where an address lies.
 
+ghost use Rattle.std.specs.Prelude.{◌≡◌};
+
 use crate::{Bytes64, DeviceId};
 
 /// One DMA job of a device. A request is one accepted job.
@@ -14,6 +16,26 @@ pub enum Job {
     /// Adds the value to the 8 bytes at the address, little-endian and wrapping, and puts the old 8 bytes at the front
     /// of the issuer's buffer. A fence.
     Add { at: u64, value: u64 },
+}
+
+impl Job {
+    /// An equal job.
+    pub fn copy(&self) -> Job
+        ensures { result ≡ self.now }
+    {
+        match self {
+            Job::Write { at, bytes } => Job::Write {
+                at: *at,
+                bytes: bytes.copy(),
+            },
+            Job::Read { at, len } => Job::Read { at: *at, len: *len },
+            Job::Store { at, len } => Job::Store { at: *at, len: *len },
+            Job::Add { at, value } => Job::Add {
+                at: *at,
+                value: *value,
+            },
+        }
+    }
 }
 
 /// Where a range of addresses lies.

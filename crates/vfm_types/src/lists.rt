@@ -1,10 +1,11 @@
 //! Lists under names of their own: a contract compares them as lists, whatever room their vectors have.
 
-ghost use Rattle.std.specs.Prelude.{◌≡◌, ◌<◌, ◌^◌, ◌==◌, ℕ, Some, length, slice_get, slice_index, slice_index_or, vec_len};
+ghost use Rattle.std.specs.Prelude.{◌≡◌, ◌<◌, ◌^◌, ◌==◌, ℕ, Some, IfOk, length, slice_get, slice_index, slice_index_or, vec_len};
 ghost use Rattle.vfm_types.specs.declared.job.Job.{Job};
 ghost use Rattle.vfm_types.specs.declared.desc.DevShape.{DevShape};
 
-use crate::{DevShape, Job};
+use crate::{DevShape, Job, NoMemory};
+use std::alloc::Global;
 use std::marker::Model;
 
 /// The jobs of a device, by number. Fewer than 2^32.
@@ -63,6 +64,15 @@ impl Jobs {
     {
         self.list.as_slice()
     }
+
+    /// An equal list, on the same allocator.
+    pub fn copy(&self) -> Result<Jobs, NoMemory>
+        ensures { IfOk result (λ copy. copy ≡ self.now) }
+    {
+        let alloc = *self.list.allocator();
+        let list = copy_jobs(alloc, self.list.as_slice())?;
+        Ok(Jobs { list })
+    }
 }
 
 /// The jobs that are asked for at the start, by number and in order. Fewer than 2^32.
@@ -119,6 +129,15 @@ impl Queue {
         ensures few { length self.now < 2 ^ 32 }
     {
         self.list.as_slice()
+    }
+
+    /// An equal list, on the same allocator.
+    pub fn copy(&self) -> Result<Queue, NoMemory>
+        ensures { IfOk result (λ copy. copy ≡ self.now) }
+    {
+        let alloc = *self.list.allocator();
+        let list = Vec::from_slice(alloc, self.list.as_slice())?;
+        Ok(Queue { list })
     }
 }
 
@@ -177,6 +196,15 @@ impl Shapes {
         ensures few { length self.now < 2 ^ 32 }
     {
         self.list.as_slice()
+    }
+
+    /// An equal list, on the same allocator.
+    pub fn copy(&self) -> Result<Shapes, NoMemory>
+        ensures { IfOk result (λ copy. copy ≡ self.now) }
+    {
+        let alloc = *self.list.allocator();
+        let list = copy_shapes(alloc, self.list.as_slice())?;
+        Ok(Shapes { list })
     }
 }
 
@@ -289,4 +317,24 @@ impl PendingList {
     {
         self.list.as_slice()
     }
+}
+
+fn copy_jobs(alloc: Global, jobs: &[Job]) -> Result<Vec<Job>, NoMemory>
+    ensures { IfOk result (λ copy. copy.items ≡ jobs.now) }
+{
+    let mut copy = Vec::with_capacity(alloc, jobs.len())?;
+    for job in jobs {
+        copy.push(job.copy())?;
+    }
+    Ok(copy)
+}
+
+fn copy_shapes(alloc: Global, shapes: &[DevShape]) -> Result<Vec<DevShape>, NoMemory>
+    ensures { IfOk result (λ copy. copy.items ≡ shapes.now) }
+{
+    let mut copy = Vec::with_capacity(alloc, shapes.len())?;
+    for shape in shapes {
+        copy.push(shape.copy()?)?;
+    }
+    Ok(copy)
 }
