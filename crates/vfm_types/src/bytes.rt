@@ -127,6 +127,15 @@ impl Bytes64 {
         &self.bytes[..self.len as usize]
     }
 
+    /// How many there are.
+    pub fn len(&self) -> u32
+        ensures value { result ≡ length self.now }
+        ensures least { 1 ≤ result }
+        ensures most { result ≤ 64 }
+    {
+        u32::from(self.len)
+    }
+
     /// Equal bytes.
     pub fn copy(&self) -> Bytes64
         ensures { result ≡ self.now }
