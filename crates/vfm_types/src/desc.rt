@@ -1,6 +1,16 @@
 //! The description of a machine and of its move.
 
-use crate::{Flags, Jobs, Name, Queue, Shapes};
+ghost use Rattle.std.specs.Prelude.{◌≡◌, ◌≤◌, ◌<◌, ◌*◌, ◌^◌, ℕ, Some, None, IfOk, IsTrue};
+ghost use Rattle.vfm_types.specs.Desc.{bar_bytes, device_count};
+ghost use Rattle.vfm_types.specs.Region.{region_of};
+ghost use Rattle.vfm_types.specs.Valid.{InRange};
+
+use crate::{DeviceId, Flags, Jobs, Name, NoMemory, Place, Queue, Region, Shapes};
+
+// the address of device 0's BAR, and how far the next one's is from it
+const BAR_BASE: u64 = 0x1000_0000;
+
+const BAR_STRIDE: u64 = 0x8_0000;
 
 /// One device of a described machine.
 #[derive(Debug, Drop)]
@@ -19,6 +29,34 @@ pub struct DevShape {
     pub fails: u32,
     pub jobs: Jobs,
     pub queue: Queue,
+}
+
+impl DevShape {
+    /// Bytes of the device's BAR.
+    pub fn bar_bytes(&self) -> u32
+        ensures { result ≡ bar_bytes self.now }
+    {
+        self.bar
+    }
+
+    /// An equal device.
+    pub fn copy(&self) -> Result<DevShape, NoMemory>
+        ensures { IfOk result (λ copy. copy ≡ self.now) }
+    {
+        let jobs = self.jobs.copy()?;
+        let queue = self.queue.copy()?;
+        Ok(DevShape {
+            name: self.name.copy(),
+            flags: self.flags,
+            bar: self.bar,
+            window: self.window,
+            tells: self.tells,
+            budget: self.budget,
+            fails: self.fails,
+            jobs,
+            queue,
+        })
+    }
 }
 
 /// A machine, its devices with their jobs, and the limits of its move.
@@ -41,4 +79,60 @@ pub struct Desc {
     /// A pass over at most so many pages is the last before the devices are stopped: at most 1,024.
     pub threshold: u32,
     pub devices: Shapes,
+}
+
+impl Desc {
+    /// The place of the `len` bytes from address `at`, or `None` exactly where they don't lie in one page or one BAR.
+    /// `len` is 1 to 64.
+    pub fn region_of(&self, at: u64, len: u32) -> Option<Place>
+        requires in_range { InRange self.now }
+        requires some { 1 ≤ len }
+        requires few { len ≤ 64 }
+        ensures { result ≡ region_of self.now at len }
+    {
+        let page = u64::from(self.page);
+        let size = page * u64::from(self.pages);
+        let offset = at % page;
+        let len = u64::from(len);
+        if len <= size && at <= size - len && offset + len <= page {
+            return Some(Place {
+                region: Region::Page((at / page) as u32),
+                offset: offset as u32,
+            });
+        }
+        if at < BAR_BASE {
+            return None;
+        }
+        let owner = (at - BAR_BASE) / BAR_STRIDE;
+        let offset = (at - BAR_BASE) % BAR_STRIDE;
+        if owner >= u64::from(self.devices.len()) {
+            return None;
+        }
+        let shape = self.devices.at(owner as u32);
+        if offset + len > u64::from(shape.bar_bytes()) {
+            return None;
+        }
+        Some(Place {
+            region: Region::Bar(DeviceId(owner as u8)),
+            offset: offset as u32,
+        })
+    }
+
+    /// An equal description.
+    pub fn copy(&self) -> Result<Desc, NoMemory>
+        ensures { IfOk result (λ copy. copy ≡ self.now) }
+    {
+        let devices = self.devices.copy()?;
+        Ok(Desc {
+            session: self.session,
+            page: self.page,
+            pages: self.pages,
+            channels: self.channels,
+            version: self.version,
+            begin: self.begin,
+            rounds: self.rounds,
+            threshold: self.threshold,
+            devices,
+        })
+    }
 }
