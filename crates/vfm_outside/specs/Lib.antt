@@ -1,0 +1,4 @@
+pub mod Carried
+pub mod Counts
+pub mod Links
+pub mod Told
