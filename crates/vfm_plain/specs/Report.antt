@@ -18,11 +18,11 @@ pub record Told : Type 0 where
 
 -- a journal under its title
 abbrev pub journal_part : List ℕ → List Entry → List ℕ
-journal_part title entries = line (codes "journal" ∷ title ∷ []) ++ journal_text entries
+journal_part title entries = line (codes "journal") (title ∷ []) ++ journal_text entries
 
 -- a state under its title
 abbrev pub state_part : Desc → List ℕ → Machine → List ℕ
-state_part D title m = line (codes "state" ∷ title ∷ []) ++ state_text D m
+state_part D title m = line (codes "state") (title ∷ []) ++ state_text D m
 
 -- a part, where it is there
 abbrev pub if_there : {X : Type 0} → (X → List ℕ) → Option X → List ℕ
@@ -35,7 +35,7 @@ parts_text D told =
     journal_part (codes "source") told.source ++ if_there (state_part D (codes "joint")) told.joint
     ++ if_there (state_part D (codes "loaded")) told.loaded
     ++ if_there (journal_part (codes "destination")) told.destination
-    ++ if_there (state_part D (codes "final")) told.final ++ line (codes "end" ∷ [])
+    ++ if_there (state_part D (codes "final")) told.final ++ line (codes "end") []
 
 -- The report of a run whose status has this line. Where no core was made, the status line is all.
 abbrev pub report_text : Desc → List ℕ → Option Told → List ℕ

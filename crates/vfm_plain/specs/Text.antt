@@ -1,13 +1,12 @@
 -- Lines of text: words separated by one blank, ended by one line feed; numbers decimal, bytes as lower-case hex digits.
 use Rattle.std.specs.Prelude.{ℕ, List, [], ◌∷◌, ◌++◌, codes}
+use Rattle.std.specs.List.{flat_map}
 use Rattle.vfm_types.specs.declared.state.MigState.{MigState}
 use Rattle.vfm_types.specs.declared.state.MigState.TheVariants.{Error, Stop, Running, StopCopy, Resuming, RunningP2p, PreCopy, PreCopyP2p}
 
--- these words as a line
-abbrev pub line : List (List ℕ) → List ℕ
-line [] = 10 ∷ []
-line (word ∷ []) = word ++ 10 ∷ []
-line (word ∷ next ∷ words) = word ++ 32 ∷ line (next ∷ words)
+-- a word and the words behind it as a line
+abbrev pub line : List ℕ → List (List ℕ) → List ℕ
+line first words = first ++ flat_map (λ word. 32 ∷ word) words ++ 10 ∷ []
 
 -- a state by its name in linux/vfio.h
 abbrev pub state_name : MigState → List ℕ
