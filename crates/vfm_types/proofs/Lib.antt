@@ -1,2 +1,3 @@
 pub mod Passing
 pub mod PageWords
+pub mod FormFault
