@@ -1,11 +1,11 @@
 //! The description of a machine and of its move.
 
-ghost use Rattle.std.specs.Prelude.{[], ◌≡◌, ◌≤◌, ◌<◌, ◌*◌, ◌^◌, ℕ, Some, None, List, IfOk, IfErr, MatchResult, IsTrue, nat_eq, take, length};
+ghost use Rattle.std.specs.Prelude.{[], ◌≡◌, ◌≢◌, ◌≤◌, ◌<◌, ◌*◌, ◌^◌, ℕ, Some, None, List, IfOk, IfErr, MatchResult, IsTrue, nat_eq, take, length};
 ghost use Rattle.std.specs.List.{list_any};
 ghost use Rattle.std.specs.Cmp.Lexicographic.{pointwise};
 ghost use Rattle.vfm_types.specs.Desc.{bar_bytes, device_count, shape_at};
 ghost use Rattle.vfm_types.specs.Region.{region_of};
-ghost use Rattle.vfm_types.specs.Job.{address_of, length_of};
+ghost use Rattle.vfm_types.specs.Job.{address_of, length_of, place_of, is_doorbell};
 ghost use Rattle.vfm_types.specs.declared.desc.Desc.{Desc};
 ghost use Rattle.vfm_types.specs.DescFault.{name_twice, spoils_bell, job_fault, jobs_fault, devices_fault, lacks_p2p, form_fault};
 ghost use Rattle.vfm_types.specs.Valid.{InRange, IsValid, is_job_in_range};
@@ -132,6 +132,7 @@ impl Desc {
         ensures cases { MatchResult result (λ d. form_fault desc ≡ None) (λ fault. form_fault desc ≡ Some fault) }
         ensures same { IfOk result (λ d. d ≡ desc) }
         ensures valid { IfOk result IsValid }
+        ensures no_memory { IfErr result (λ fault. fault ≢ DescFault.NoMemory) }
     {
         match desc.form_fault() {
             Some(fault) => Err(fault),
@@ -222,6 +223,30 @@ impl Desc {
             }
         }
         None
+    }
+
+    /// Where a job of the description is aimed.
+    pub fn place_of(&self, job: &Job) -> Place
+        requires in_range { InRange self.now }
+        requires job { IsTrue (is_job_in_range job.now) }
+        ensures { result ≡ place_of self.now job.now }
+    {
+        match self.region_of(job.address(), job.length()) {
+            Some(place) => place,
+            None => Place {
+                region: Region::Page(0),
+                offset: 0,
+            },
+        }
+    }
+
+    /// Whether the job rings a doorbell.
+    pub fn is_doorbell(&self, job: &Job) -> bool
+        requires in_range { InRange self.now }
+        requires job { IsTrue (is_job_in_range job.now) }
+        ensures { result ≡ is_doorbell self.now job.now }
+    {
+        job.may_ring() && self.place_of(job).is_bell(job.length())
     }
 
     /// An equal description.
