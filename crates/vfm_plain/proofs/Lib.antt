@@ -1,0 +1,4 @@
+pub mod Pending
+pub mod Places
+pub mod Sound
+pub mod Steps
