@@ -1,4 +1,5 @@
 pub mod Carried
 pub mod Counts
 pub mod Links
+pub mod Script
 pub mod Told
