@@ -1,7 +1,7 @@
 //! A link that receives bytes fixed beforehand.
 
 ghost use Rattle.std.specs.Prelude.{◌≡◌, ◌-◌, ◌+◌, ◌<◌, ◌≤◌, ◌||◌, [], false, Ok, Some, IfOk, length, min, take, not, is_ok, nat_lt, vec_len, vec_capacity};
-ghost use Rattle.vfm_outside.specs.Counts.{CountsFaults};
+ghost use Rattle.vfm_outside.specs.Counts.{CountsFaults, counted};
 ghost use Rattle.vfm_outside.specs.Told.{Takes, Receives};
 ghost use Rattle.vfm_outside.specs.Links.{ended_after};
 ghost use Rattle.vfm_outside.specs.Script.{new_plan, is_failing, after_call, after_moving, answer_of};
@@ -77,6 +77,13 @@ impl ScriptLink {
         ensures { result ≡ ⟦<ScriptLink as Link>⟧.ended self.now }
     {
         self.ended
+    }
+
+    /// How often a call has failed, of both directions.
+    pub fn faults(&self) -> u64
+        ensures { result ≡ counted (⟦<ScriptLink as Link>⟧.failed_out self.now + ⟦<ScriptLink as Link>⟧.failed_in self.now) }
+    {
+        self.failed_out.saturating_add(self.failed_in)
     }
 }
 
