@@ -1,5 +1,5 @@
 -- The faults of the links in memory of the two ends.
-use Rattle.std.proofs.Common.{◌≡◌, ◌∙◌, sym, ap, ℕ, ◌+◌, List, map, sum, sum_by, arith}
+use Rattle.std.proofs.Common.{◌≡◌, ◌∙◌, sym, ap, List, map, sum, sum_by}
 use Rattle.std.proofs.lemmas.Simd.{map-map}
 use Rattle.std.proofs.lemmas.List.Sums.{sum-map}
 use Rattle.vfm_outside.specs.declared.script_link.ScriptLink.{ScriptLink}

@@ -1,5 +1,5 @@
 -- The objects in memory: which of their calls fail, and what the others move.
-use Rattle.std.specs.Prelude.{◌≡◌, ℕ, ◌+◌, ◌==◌, Bool, true, false, Option, List, Result, Ok, Err, if◌then◌else◌}
+use Rattle.std.specs.Prelude.{ℕ, ◌+◌, ◌==◌, Bool, List, Result, Ok, Err, if◌then◌else◌}
 use Rattle.std.specs.List.{list_any}
 use Rattle.vfm_outside.specs.Counts.{counted}
 use Rattle.vfm_outside.specs.declared.failed.Failed.{Failed}

@@ -1,5 +1,5 @@
 -- The links in memory of the two ends, and what they tell.
-use Rattle.std.specs.Prelude.{◌≡◌, ℕ, ◌+◌, List, Option, Some, None, take, vec_len}
+use Rattle.std.specs.Prelude.{ℕ, ◌+◌, Option, Some, None, take, vec_len}
 use Rattle.vfm_outside.specs.declared.script_link.ScriptLink.{ScriptLink}
 use Rattle.vfm_outside.specs.declared.wires.Ends.{Ends}
 use Rattle.vfm_outside.specs.Links.{Told, ToldEnds, AreNew, ends_faults}
@@ -8,8 +8,12 @@ use Rattle.vfm_outside.specs.Carried.{ends_told}
 -- what a link in memory tells
 abbrev pub script_told : ScriptLink → Told
 script_told link = record {
-  ended = link.ended; failed_out = link.failed_out; failed_in = link.failed_in;
-  sent = Some link.sent.items; received = Some (take link.at link.inbox.items) }
+  ended = link.ended;
+  failed_out = link.failed_out;
+  failed_in = link.failed_in;
+  sent = Some link.sent.items;
+  received = Some (take link.at link.inbox.items);
+}
 
 -- the faults of a link in memory
 abbrev pub script_faults : ScriptLink → ℕ

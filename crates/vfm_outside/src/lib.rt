@@ -24,3 +24,6 @@ pub use script_wires::ScriptWires;
 pub use sink::{Sink, write_all};
 pub use source::{Source, read_up_to};
 pub use wires::{ConnectFault, Ends, Wires};
+
+#[cfg(test)]
+mod tests;

@@ -65,8 +65,14 @@ fn row_faults(links: &[ScriptLink]) -> u64
 fn all_faults(ends: &Ends<ScriptLink>) -> u64
     ensures { result ≡ counted (ends_faults (script_ends ends.now)) }
 {
-    let source = ends.source_control.faults().saturating_add(row_faults(&ends.source));
-    let dest = ends.dest_control.faults().saturating_add(row_faults(&ends.dest));
+    let source = ends
+        .source_control
+        .faults()
+        .saturating_add(row_faults(&ends.source));
+    let dest = ends
+        .dest_control
+        .faults()
+        .saturating_add(row_faults(&ends.dest));
     source.saturating_add(dest)
 }
 

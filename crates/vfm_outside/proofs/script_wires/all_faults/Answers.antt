@@ -1,5 +1,4 @@
 use Rattle.std.proofs.Common.{arith}
-use Rattle.std.proofs.lemmas.Grind.{common_steps}
 use Rattle.vfm_outside.proofs.EndsLemmas.{told-row_faults}
 use Rattle.vfm_outside.proofs.script_wires.all_faults.Goals as goal
 

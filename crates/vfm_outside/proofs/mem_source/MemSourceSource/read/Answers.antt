@@ -1,4 +1,4 @@
-use Rattle.std.proofs.Common.{◌≡◌, ◌-◌, length, min, arith, rules}
+use Rattle.std.proofs.Common.{◌≡◌, ◌-◌, length, min, arith}
 use Rattle.std.proofs.lemmas.Grind.{common_steps}
 use Rattle.vfm_outside.proofs.MemoryLemmas.{left-given, left-end}
 use Rattle.vfm_outside.proofs.mem_source.MemSourceSource.read.Goals as goal
