@@ -1,6 +1,6 @@
 //! A source over bytes in memory.
 
-ghost use Rattle.std.specs.Prelude.{◌≡◌, ◌-◌, ◌<◌, ◌≤◌, ℕ, Ok, Some, length, drop, min, vec_len};
+ghost use Rattle.std.specs.Prelude.{◌≡◌, ◌-◌, ◌<◌, ◌≤◌, Ok, Some, length, drop, min, vec_len};
 ghost use Rattle.vfm_outside.specs.Counts.{CountsFaults};
 ghost use Rattle.vfm_outside.specs.Told.{Reads};
 ghost use Rattle.vfm_outside.specs.Script.{new_plan, is_failing, after_moving, answer_of};

@@ -1,6 +1,6 @@
 //! What the objects in memory share: a plan of the calls that fail, and the way of bytes out of a list.
 
-ghost use Rattle.std.specs.Prelude.{◌≡◌, ◌+◌, ◌-◌, ◌<◌, ◌≤◌, ℕ, length, min, take, drop};
+ghost use Rattle.std.specs.Prelude.{◌≡◌, ◌+◌, ◌-◌, ◌<◌, ◌≤◌, length, min, take, drop};
 ghost use Rattle.vfm_outside.specs.Script.{Plan, new_plan, is_failing, after_call};
 
 use std::marker::Model;

@@ -1,11 +1,11 @@
 //! Wires over links that were made beforehand.
 
-ghost use Rattle.std.specs.Prelude.{◌≡◌, ◌≢◌, ◌≤◌, ◌+◌, [], ◌∷◌, ◌++◌, Bool, true, false, ◌==◌, ◌&&◌, Option, Some, None, OnOk, IfOk, OnErr, IsErrOf, IfSome, is_some, nat_eq, vec_len, length, sum_by, if◌then◌else◌};
+ghost use Rattle.std.specs.Prelude.{◌≡◌, ◌≢◌, ◌≤◌, ◌+◌, [], ◌∷◌, false, ◌==◌, Option, Some, None, OnOk, IfOk, OnErr, IsErrOf, vec_len, sum_by};
 ghost use Rattle.std.specs.Option.{ForSome, option_map, option_map_or};
 ghost use Rattle.std.proofs.Props.{props};
 ghost use Rattle.vfm_outside.specs.Counts.{Rose, Includes, counted};
 ghost use Rattle.vfm_outside.specs.Told.{told_then};
-ghost use Rattle.vfm_outside.specs.Links.{ToldEnds, AreNew, ends_faults};
+ghost use Rattle.vfm_outside.specs.Links.{AreNew, ends_faults};
 ghost use Rattle.vfm_outside.specs.ScriptEnds.{script_ends, script_faults, EndsAreNew, held_faults};
 
 use crate::{ConnectFault, Ends, ScriptLink, Wires};
