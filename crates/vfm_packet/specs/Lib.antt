@@ -1,0 +1,4 @@
+pub mod Header
+pub mod Sound
+pub mod Packet
+pub mod Answer
