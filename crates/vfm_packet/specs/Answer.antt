@@ -29,3 +29,25 @@ decoded_behind None bytes =
 -- what stands at the front
 unfoldable pub decoded : Expect → List ℕ → Decoded
 decoded e bytes = if nat_lt (length bytes) 40 then answers.More else decoded_behind (head_fault e bytes) bytes
+
+-- the bytes begin with this sound header, and what it announces is there
+pub record BeginsWith (e : Expect) (bytes : List ℕ) (head : Header) : Type 0 where
+  pub sound : IsSound e head
+  pub spelled : take 40 bytes ≡ head_bytes head
+  pub whole : packet_size head ≤ length bytes
+
+-- a sound header stands in front of fewer bytes than it announces
+pub record IsCutShort (e : Expect) (bytes : List ℕ) : Type 0 where
+  pub head : Header
+  pub sound : IsSound e head
+  pub spelled : take 40 bytes ≡ head_bytes head
+  pub short : length bytes < packet_size head
+
+-- fewer bytes than a whole packet, as far as can be seen
+abbrev pub IsPartial : Expect → List ℕ → Type 0
+IsPartial e bytes = (length bytes < 40) ⊎ IsCutShort e bytes
+
+-- no sound header is spelled by the forty bytes at the front
+pub record HasNoHeader (e : Expect) (bytes : List ℕ) : Type 0 where
+  pub long : 40 ≤ length bytes
+  pub none : (head : Header) → IsSound e head → take 40 bytes ≡ head_bytes head → ⊥

@@ -2,3 +2,4 @@ pub mod Header
 pub mod Sound
 pub mod Packet
 pub mod Answer
+pub mod Channel

@@ -55,10 +55,9 @@ abbrev pub first_failed : List (Bool × Cause) → Option Cause
 first_failed [] = None
 first_failed (test ∷ tests) = if test.0 then first_failed tests else Some test.1
 
--- the tests of the header at the front, in their order
-abbrev pub head_tests : Expect → List ℕ → List (Bool × Cause)
-head_tests e bytes =
-    let h = head_at bytes in
+-- the tests of forty bytes and of the header that they spell, in their order
+abbrev pub head_tests : Expect → List ℕ → Header → List (Bool × Cause)
+head_tests e bytes h =
     (word_at w32 0 bytes == 0x56464d44, causes.Magic)
     ∷ (h.version == e.version, causes.Version)
     ∷ (is_some (kind_of_number (word_at w16 6 bytes)), causes.Kind)
@@ -69,4 +68,4 @@ head_tests e bytes =
 
 -- why the forty bytes at the front are no sound header, if they aren't: the first test that fails
 unfoldable pub head_fault : Expect → List ℕ → Option Cause
-head_fault e bytes = first_failed (head_tests e bytes)
+head_fault e bytes = first_failed (head_tests e bytes (head_at bytes))

@@ -3,10 +3,12 @@
 
 mod answer;
 mod header;
+mod law;
 mod reader;
 mod writer;
 
 pub use answer::{Cause, Decoded, Expect};
 pub use header::{HEAD_LEN, Header, Kind, PAYLOAD_LIMIT, packet_size};
+pub use law::nothing;
 pub use reader::decode;
 pub use writer::encode_head;

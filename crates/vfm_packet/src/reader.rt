@@ -1,10 +1,13 @@
 //! Reading the packet at the front of some bytes.
 
-ghost use Rattle.std.specs.Prelude.{◌≡◌, ◌+◌, ◌≤◌, ℕ, length, MatchResult, Some, None};
+ghost use Rattle.std.specs.Prelude.{◌≡◌, ◌+◌, ◌≤◌, ◌↔◌, ℕ, length, MatchResult, Some, None};
 ghost use Rattle.std.specs.Int.{w16, w32, w64};
 ghost use Rattle.vfm_packet.specs.Header.{carries};
 ghost use Rattle.vfm_packet.specs.Sound.{word_at, head_at, head_fault, knows_stream, has_length, has_zeros};
-ghost use Rattle.vfm_packet.specs.Answer.{decoded};
+ghost use Rattle.vfm_packet.specs.Packet.{packet_size};
+ghost use Rattle.vfm_packet.specs.Answer.{decoded, BeginsWith, IsPartial, HasNoHeader};
+ghost use Rattle.vfm_packet.specs.declared.header.Header.{Header};
+ghost use Rattle.vfm_packet.specs.declared.answer.Cause.{Cause};
 
 use crate::answer::{Cause, Decoded, Expect};
 use crate::header::{HEAD_LEN, Header, Kind, PAYLOAD_LIMIT, packet_size};
@@ -120,10 +123,10 @@ fn sound_head(bytes: &[u8], expect: &Expect) -> Result<Header, Cause>
     Ok(head)
 }
 
-/// What stands at the front of the bytes.
+// The answer by the tests in their order.
 #[tactic(auto, unfolding(crate::specs::Answer::decoded))]
-pub fn decode(bytes: &[u8], expect: &Expect) -> Decoded
-    ensures exact { result ≡ decoded expect.now bytes.now }
+fn answer(bytes: &[u8], expect: &Expect) -> Decoded
+    ensures { result ≡ decoded expect.now bytes.now }
 {
     if bytes.len() < HEAD_LEN {
         return Decoded::More;
@@ -135,4 +138,24 @@ pub fn decode(bytes: &[u8], expect: &Expect) -> Decoded
         }
         Err(cause) => Decoded::Bad { cause },
     }
+}
+
+/// What stands at the front of the bytes: a whole packet, less than one, or 40 bytes that are no sound header.
+/// What follows a packet isn't looked at, and no memory is taken.
+pub fn decode(bytes: &[u8], expect: &Expect) -> Decoded
+    // Exactly a sound header with all that it announces is a packet.
+    ensures packet {
+        (head : Header) (used : ℕ) → (result ≡ Decoded.Packet head used)
+            ↔ (BeginsWith expect.now bytes.now head × (used ≡ packet_size head))
+    }
+    // Fewer than 40 bytes, or a sound header that announces more than there is, ask for more.
+    ensures more { (result ≡ Decoded.More) ↔ IsPartial expect.now bytes.now }
+    // 40 bytes that spell no sound header are refused, for the first test of the order that fails.
+    ensures bad {
+        (cause : Cause) → (result ≡ Decoded.Bad cause)
+            ↔ (HasNoHeader expect.now bytes.now × (head_fault expect.now bytes.now ≡ Some cause))
+    }
+    ensures exact { result ≡ decoded expect.now bytes.now }
+{
+    answer(bytes, expect)
 }
