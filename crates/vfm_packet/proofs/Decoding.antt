@@ -7,11 +7,11 @@ use Rattle.vfm_packet.specs.declared.answer.Expect.{Expect}
 use Rattle.vfm_packet.specs.declared.answer.Cause.{Cause}
 use Rattle.vfm_packet.specs.declared.answer.Decoded.{Decoded}
 use Rattle.vfm_packet.specs.declared.answer.Decoded.TheVariants.{Packet, More, Bad}
-use Rattle.vfm_packet.specs.Header.{head_bytes}
+use Rattle.vfm_packet.specs.Header.{IsBytes, head_bytes}
 use Rattle.vfm_packet.specs.Sound.{IsSound, head_at, head_fault}
 use Rattle.vfm_packet.specs.Packet.{packet_size}
 use Rattle.vfm_packet.specs.Answer.{decoded, decoded_behind, BeginsWith, IsCutShort, IsPartial, HasNoHeader}
-use Rattle.vfm_packet.proofs.Words.{IsBytes, length-head_bytes}
+use Rattle.vfm_packet.proofs.Words.{length-head_bytes}
 use Rattle.vfm_packet.proofs.Heads.{head_at-head_bytes, no_fault, sound_when}
 
 -- ---- when each answer comes
@@ -32,7 +32,7 @@ pub long_enough : (h : Header) (bytes : List ℕ) → take 40 bytes ≡ head_byt
 long_enough h bytes spelled = omega (arith, ap length (apart h bytes spelled), length-append (head_bytes h) (drop 40 bytes), length-head_bytes h)
 
 -- the answer behind the tests, by the header that was found
-abbrev with_head : List ℕ → Header → Decoded
+abbrev pub with_head : List ℕ → Header → Decoded
 with_head bytes h = cond (ltb (length bytes) (packet_size h)) More (Packet h (packet_size h))
 
 pub packet_reads : (e : Expect) (bytes : List ℕ) (h : Header) → BeginsWith e bytes h → decoded e bytes ≡ Packet h (packet_size h)

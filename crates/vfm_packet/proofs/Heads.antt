@@ -10,9 +10,9 @@ use Rattle.vfm_packet.specs.declared.header.Kind.{Kind}
 use Rattle.vfm_packet.specs.declared.header.Kind.TheVariants.{Data, Config, End, Abort}
 use Rattle.vfm_packet.specs.declared.answer.Expect.{Expect}
 use Rattle.vfm_packet.specs.declared.answer.Cause.{Cause}
-use Rattle.vfm_packet.specs.Header.{kind_number, kind_of_number, carries, magic, spare, head_bytes, HasShape, IsHeader}
+use Rattle.vfm_packet.specs.Header.{IsBytes, kind_number, kind_of_number, carries, magic, spare, head_bytes, HasShape, IsHeader}
 use Rattle.vfm_packet.specs.Sound.{IsSound, word_at, kind_at, head_at, knows_stream, has_length, has_zeros, first_failed, head_tests, head_fault}
-use Rattle.vfm_packet.proofs.Words.{IsBytes, word_16, word_32, word_64, magic_of, version_of, kind_of, session_of, stream_of, index_of, length_of, spare_high_of, spare_low_of}
+use Rattle.vfm_packet.proofs.Words.{word_16, word_32, word_64, magic_of, version_of, kind_of, session_of, stream_of, index_of, length_of, spare_high_of, spare_low_of}
 
 -- ---- the list of tests
 

@@ -2,15 +2,11 @@
 use Rattle.std.proofs.Common.{◌≡◌, ℕ, zero, suc, ◌+◌, ◌-◌, ◌^◌, ◌<◌, ◌≤◌, List, [], ◌∷◌, ◌++◌, length, get_or, take, drop, refl, sym, ap, ◌∙◌, inl, inr, arith}
 use Rattle.std.specs.Int.{Width, w16, w32, w64, byte_len, from_be_bytes, to_be_bytes}
 use Rattle.std.proofs.lemmas.Bool.{cases_lt}
-use Rattle.std.proofs.lemmas.List.{length-take, length-drop, get_or-drop, get_or-take, get_or_past}
+use Rattle.std.proofs.lemmas.List.{length-take, length-drop, take-append-le, drop-append-le, get_or-drop, get_or-take, get_or_past}
 use Rattle.std.proofs.lemmas.Nat.{be_bytes_2, be_bytes_4, be_bytes_8, from_be_bytes-to_be_bytes_2, from_be_bytes-to_be_bytes_4, from_be_bytes-to_be_bytes_8}
 use Rattle.vfm_packet.specs.declared.header.Header.{Header}
-use Rattle.vfm_packet.specs.Header.{kind_number, head_bytes}
+use Rattle.vfm_packet.specs.Header.{IsBytes, kind_number, head_bytes}
 use Rattle.vfm_packet.specs.Sound.{word_at}
-
--- each is a byte
-abbrev pub IsBytes : List ℕ → Type 0
-IsBytes bytes = (i : ℕ) → get_or bytes i 0 < 256
 
 pub IsBytes-drop : (n : ℕ) (bytes : List ℕ) → IsBytes bytes → IsBytes (drop n bytes)
 IsBytes-drop n bytes h i = rw get_or-drop (h (n + i))
@@ -55,6 +51,16 @@ word_64 place bytes h fits =
     let each = IsBytes-piece 8 place bytes fits in
     (be_bytes_8 piece _ (piece_len 8 place bytes h) each refl,
      omega (arith, each 0, each 1, each 2, each 3, each 4, each 5, each 6, each 7))
+
+-- ---- what follows doesn't matter
+
+pub word_stays : (w : Width) (place : ℕ) (bytes more : List ℕ) → place + byte_len w ≤ length bytes → word_at w place (bytes ++ more) ≡ word_at w place bytes
+unfolding word_at
+word_stays w place bytes more h =
+    let piece : take (byte_len w) (drop place (bytes ++ more)) ≡ take (byte_len w) (drop place bytes) =
+        ap (λ (l : List ℕ). take (byte_len w) l) (drop-append-le place bytes more (omega arith))
+            ∙ take-append-le (byte_len w) (drop place bytes) more (omega (arith, length-drop place bytes)) in
+    ap (from_be_bytes w) piece
 
 -- ---- in bytes: each number of a header is found at its place
 

@@ -10,7 +10,7 @@ use Rattle.vfm_packet.specs.declared.answer.Decoded.{Decoded}
 use Rattle.vfm_packet.specs.declared.answer.Decoded.TheVariants as answers
 use Rattle.vfm_packet.specs.Header.{carries, head_bytes}
 use Rattle.vfm_packet.specs.Sound.{IsSound, head_fault}
-use Rattle.vfm_packet.specs.Packet.{Packet, packet_bytes, packet_size, IsSoundPacket}
+use Rattle.vfm_packet.specs.Packet.{Packet, packet_at, packet_bytes, packet_size, seal_len, IsSoundPacket}
 use Rattle.vfm_packet.specs.Answer.{decoded, IsPartial}
 
 -- the most bytes that a channel may have
@@ -24,21 +24,27 @@ pub record IsCarried (e : Expect) (p : Packet) : Type 0 where
   pub sound : IsSoundPacket e p
   pub carries : IsTrue (carries p.head.kind)
 
--- the packet that ends a channel, by End or by Abort
-abbrev pub mark : Expect → Kind → Packet
-mark e kind = record {
-  head = record { version = e.version; kind = kind; session = e.session; stream = 0; index = 0; length = 0 };
-  payload = [];
-}
-
 -- packets, one after the other
 abbrev pub all_bytes : List Packet → List ℕ
 all_bytes packets = flat_map packet_bytes packets
 
--- a sound channel: data and config packets, then one End and nothing else
+-- a sound packet of this kind stands at the front, and more follows
+pub record Stands (e : Expect) (kind : Kind) (bytes more : List ℕ) : Type 0 where
+  pub packet : Packet
+  pub sound : IsSoundPacket e packet
+  pub of_kind : packet.head.kind ≡ kind
+  pub spelled : bytes ≡ packet_bytes packet ++ more
+
+-- how many bytes an end or an abort packet has
+abbrev pub mark_size : Expect → ℕ
+mark_size e = 40 + seal_len e.version
+
+-- a sound channel: data and config packets one after the other, then one end packet and nothing else
 pub record IsSoundChannel (e : Expect) (bytes : List ℕ) (packets : List Packet) : Type 0 where
+  pub rest : List ℕ
   pub each : AllByRecursion (IsCarried e) packets
-  pub spelled : bytes ≡ all_bytes packets ++ packet_bytes (mark e End)
+  pub spelled : bytes ≡ all_bytes packets ++ rest
+  pub ends : Stands e End rest []
 
 -- ---- refusals
 
@@ -65,34 +71,28 @@ judged limit bytes = take (limit + 1) bytes
 abbrev pub is_over : ℕ → List ℕ → Bool
 is_over limit bytes = nat_lt limit (length bytes)
 
--- the bytes begin with this packet, and are it where nothing follows
-abbrev pub StartsWith : Packet → List ℕ → List ℕ → Type 0
-StartsWith p more bytes = bytes ≡ packet_bytes p ++ more
-
--- a channel is too long before it is refused otherwise: the packet at the place isn't whole in what is judged,
--- or is an End that reaches the limit
+-- the channel passes the limit before it is refused otherwise: the packet at the place isn't whole in what is judged,
+-- or it is an end packet that reaches the limit
 abbrev pub PassesLimit : ℕ → Expect → ℕ → List ℕ → Type 0
-PassesLimit limit e place rest =
-    IsPartial e rest ⊎ ((more : List ℕ) × StartsWith (mark e End) more rest × (limit ≤ place + length (packet_bytes (mark e End))))
+PassesLimit limit e place rest = IsPartial e rest ⊎ ((more : List ℕ) × Stands e End rest more × (limit ≤ place + mark_size e))
 
--- what stands at a place behind the packets of a channel, and is all the rest of what is judged
-abbrev pub Stands : ℕ → Expect → Bool → ℕ → List ℕ → Option Refusal → Type 0
-Stands limit e over place rest None = (over ≡ false) × (rest ≡ packet_bytes (mark e End))
-Stands limit e over place rest (Some (Bad at cause)) = (at ≡ place) × (40 ≤ length rest) × (head_fault e rest ≡ Some cause)
-Stands limit e over place rest (Some (Aborted at)) = (at ≡ place) × ((more : List ℕ) × StartsWith (mark e Abort) more rest)
-Stands limit e over place rest (Some (Truncated at)) = (at ≡ place) × (over ≡ false) × (0 < length rest) × IsPartial e rest
-Stands limit e over place rest (Some (NoEnd at)) = (at ≡ place) × (over ≡ false) × (rest ≡ [])
-Stands limit e over place rest (Some (AfterEnd at)) =
-    (at ≡ place + length (packet_bytes (mark e End))) × (at < limit)
-    × ((byte : ℕ) × (more : List ℕ) × StartsWith (mark e End) (byte ∷ more) rest)
-Stands limit e over place rest (Some TooLong) = (over ≡ true) × PassesLimit limit e place rest
+-- what the rest of what is judged, behind the packets and from a place on, says of the channel
+abbrev pub Says : ℕ → Expect → Bool → ℕ → List ℕ → Option Refusal → Type 0
+Says limit e over place rest None = (over ≡ false) × Stands e End rest []
+Says limit e over place rest (Some (Bad at cause)) = (at ≡ place) × (40 ≤ length rest) × (head_fault e rest ≡ Some cause)
+Says limit e over place rest (Some (Aborted at)) = (at ≡ place) × ((more : List ℕ) × Stands e Abort rest more)
+Says limit e over place rest (Some (Truncated at)) = (at ≡ place) × (over ≡ false) × (0 < length rest) × IsPartial e rest
+Says limit e over place rest (Some (NoEnd at)) = (at ≡ place) × (over ≡ false) × (rest ≡ [])
+Says limit e over place rest (Some (AfterEnd at)) =
+    (at ≡ place + mark_size e) × (at < limit) × ((byte : ℕ) × (more : List ℕ) × Stands e End rest (byte ∷ more))
+Says limit e over place rest (Some TooLong) = (over ≡ true) × PassesLimit limit e place rest
 
 -- a reading of a channel: the packets before the first place where it isn't sound, and what is wrong there, if anything is
 pub record IsReading (limit : ℕ) (e : Expect) (bytes : List ℕ) (packets : List Packet) (refusal : Option Refusal) : Type 0 where
   pub rest : List ℕ
   pub each : AllByRecursion (IsCarried e) packets
   pub spelled : judged limit bytes ≡ all_bytes packets ++ rest
-  pub stands : Stands limit e (is_over limit bytes) (length (all_bytes packets)) rest refusal
+  pub says : Says limit e (is_over limit bytes) (length (all_bytes packets)) rest refusal
 
 -- ---- the reading as a function
 
@@ -124,10 +124,6 @@ abbrev pub behind_end : ℕ → Bool → ℕ → List ℕ → Option Refusal
 behind_end limit true place [] = Some TooLong
 behind_end limit false place [] = None
 behind_end limit over place (byte ∷ rest) = if nat_lt place limit then Some (AfterEnd place) else Some TooLong
-
--- the packet with this header at the front
-abbrev pub packet_at : Header → List ℕ → Packet
-packet_at head bytes = record { head = head; payload = take head.length (drop 40 bytes) }
 
 -- what a packet at a place leads to; go reads on at a place
 abbrev pub on_packet : Kind → ℕ → Bool → ℕ → List ℕ → Header → ℕ → (ℕ → List ℕ → Reading) → Reading

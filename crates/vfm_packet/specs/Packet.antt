@@ -1,5 +1,5 @@
 -- A whole packet: its header, its payload, and what would follow the payload.
-use Rattle.std.specs.Prelude.{◌≡◌, ℕ, ◌+◌, IsTrue, List, [], ◌∷◌, ◌++◌, length}
+use Rattle.std.specs.Prelude.{◌≡◌, ℕ, ◌+◌, IsTrue, List, [], ◌∷◌, ◌++◌, length, take, drop}
 use Rattle.vfm_packet.specs.declared.header.Header.{Header}
 use Rattle.vfm_packet.specs.declared.answer.Expect.{Expect}
 use Rattle.vfm_packet.specs.Header.{carries, head_bytes}
@@ -30,3 +30,7 @@ packet_size h = 40 + h.length + seal_len h.version
 pub record IsSoundPacket (e : Expect) (p : Packet) : Type 0 where
   pub head : IsSound e p.head
   pub len : length p.payload ≡ p.head.length
+
+-- the packet with this header at the front of some bytes
+abbrev pub packet_at : Header → List ℕ → Packet
+packet_at head bytes = record { head = head; payload = take head.length (drop 40 bytes) }
