@@ -2,3 +2,4 @@ pub mod Words
 pub mod Heads
 pub mod Decoding
 pub mod Packets
+pub mod Channels
