@@ -160,7 +160,7 @@ goes_on (p ∷ ps) limit e over place rest each =
 -- ---- a reading is the one that is read
 
 -- an end or abort packet has no payload
-mark_len : (kind : Kind) (e : Expect) (p : Packet) → carries kind ≡ false → p.head.kind ≡ kind → IsSoundPacket e p → packet_size p.head ≡ mark_size e
+pub mark_len : (kind : Kind) (e : Expect) (p : Packet) → carries kind ≡ false → p.head.kind ≡ kind → IsSoundPacket e p → packet_size p.head ≡ mark_size e
 mark_len kind e p bare of_kind is =
     let shape : HasShape false p.head = subst (λ (b : Bool). HasShape b p.head) (ap carries of_kind ∙ bare) is.head.header.shape in
     omega (arith, shape.2, ap seal_len is.head.version)

@@ -3,3 +3,4 @@ pub mod Heads
 pub mod Decoding
 pub mod Packets
 pub mod Channels
+pub mod Readings

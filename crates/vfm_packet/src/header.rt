@@ -10,6 +10,9 @@ pub const HEAD_LEN: usize = 40;
 /// The most bytes that one payload may have.
 pub const PAYLOAD_LIMIT: u32 = 65_536;
 
+/// The most bytes that a channel may have.
+pub const CHANNEL_LIMIT: u64 = 67_108_864;
+
 /// What a packet is for.
 #[derive(Clone, Copy, Debug, PartialEq, Eq)]
 pub enum Kind {
