@@ -1,7 +1,7 @@
 -- What the answer at the front of some bytes means, and when it comes.
-use Rattle.std.proofs.Common.{◌≡◌, ℕ, zero, suc, ◌+◌, ◌-◌, ◌^◌, ◌<◌, ◌≤◌, Bool, true, false, cond, ltb, List, [], ◌∷◌, ◌++◌, length, take, drop, Option, Some, None, refl, sym, ap, subst, ◌∙◌, inl, inr, ◌⊎◌, arith}
+use Rattle.std.proofs.Common.{◌≡◌, ℕ, ◌≤◌, cond, ltb, List, ◌++◌, length, take, drop, Option, Some, None, refl, sym, ap, ◌∙◌, inl, inr, arith}
 use Rattle.std.proofs.lemmas.Bool.{cases_lt, lt-ltb, le-ltb}
-use Rattle.std.proofs.lemmas.List.{take-append-drop, length-append, take_at, take-append-le, take-take}
+use Rattle.std.proofs.lemmas.List.{take-append-drop, length-append}
 use Rattle.vfm_packet.specs.declared.header.Header.{Header}
 use Rattle.vfm_packet.specs.declared.answer.Expect.{Expect}
 use Rattle.vfm_packet.specs.declared.answer.Cause.{Cause}
@@ -10,7 +10,7 @@ use Rattle.vfm_packet.specs.declared.answer.Decoded.TheVariants.{Packet, More, B
 use Rattle.vfm_packet.specs.Header.{IsBytes, head_bytes}
 use Rattle.vfm_packet.specs.Sound.{IsSound, head_at, head_fault}
 use Rattle.vfm_packet.specs.Packet.{packet_size}
-use Rattle.vfm_packet.specs.Answer.{decoded, decoded_behind, BeginsWith, IsCutShort, IsPartial, HasNoHeader}
+use Rattle.vfm_packet.specs.Answer.{decoded, decoded_behind, BeginsWith, IsPartial, HasNoHeader}
 use Rattle.vfm_packet.proofs.Words.{length-head_bytes}
 use Rattle.vfm_packet.proofs.Heads.{head_at-head_bytes, no_fault, sound_when}
 
@@ -24,9 +24,10 @@ apart h bytes e = sym (take-append-drop 40 bytes) ∙ ap (λ (front : List ℕ).
 pub header_found : (e : Expect) (h : Header) (bytes : List ℕ) → IsSound e h → take 40 bytes ≡ head_bytes h
     → (head_fault e bytes ≡ None) × (head_at bytes ≡ h)
 header_found e h bytes is spelled =
-    let parts = apart h bytes spelled in
-    (ap (head_fault e) parts ∙ no_fault e h (drop 40 bytes) is,
-     ap head_at parts ∙ head_at-head_bytes h (drop 40 bytes) is.header)
+    let parts = apart h bytes spelled in (
+      ap (head_fault e) parts ∙ no_fault e h (drop 40 bytes) is,
+      ap head_at parts ∙ head_at-head_bytes h (drop 40 bytes) is.header,
+    )
 
 pub long_enough : (h : Header) (bytes : List ℕ) → take 40 bytes ≡ head_bytes h → 40 ≤ length bytes
 long_enough h bytes spelled = omega (arith, ap length (apart h bytes spelled), length-append (head_bytes h) (drop 40 bytes), length-head_bytes h)
@@ -75,11 +76,11 @@ reads_behind e bytes fits long None fault =
     let sound = sound_when e bytes fits long fault in
     elim (cases_lt (length bytes) (packet_size (head_at bytes))) [
       | inl short ↦
-        let e1 = lt-ltb (length bytes) (packet_size (head_at bytes)) short in
-        rw e1 (inr (record { head = head_at bytes; sound = sound.0; spelled = sound.1; short = short }))
+          let e1 = lt-ltb (length bytes) (packet_size (head_at bytes)) short in
+          rw e1 (inr (record { head = head_at bytes; sound = sound.0; spelled = sound.1; short = short }))
       | inr whole ↦
-        let e2 = le-ltb (length bytes) (packet_size (head_at bytes)) whole in
-        rw e2 (record { sound = sound.0; spelled = sound.1; whole = whole }, refl)
+          let e2 = le-ltb (length bytes) (packet_size (head_at bytes)) whole in
+          rw e2 (record { sound = sound.0; spelled = sound.1; whole = whole }, refl)
     ]
 
 pub reads : (e : Expect) (bytes : List ℕ) → IsBytes bytes → Reads e bytes (decoded e bytes)

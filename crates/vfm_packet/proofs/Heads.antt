@@ -1,5 +1,5 @@
 -- A header that is spelled is read again, and forty bytes that pass the tests spell a sound header.
-use Rattle.std.proofs.Common.{◌≡◌, ℕ, zero, suc, ◌+◌, ◌-◌, ◌^◌, ◌<◌, ◌≤◌, Bool, true, false, cond, eqb, ltb, leb, List, [], ◌∷◌, ◌++◌, length, get_or, take, drop, Option, Some, None, refl, sym, ap, subst, ◌∙◌, inl, inr, arith}
+use Rattle.std.proofs.Common.{◌≡◌, ℕ, ◌^◌, ◌<◌, ◌≤◌, Bool, true, false, cond, List, [], ◌∷◌, ◌++◌, length, take, drop, Option, Some, None, refl, sym, ap, ◌∙◌, inl, inr, arith}
 use Rattle.std.specs.Prelude.{IsTrue, is_some, unwrap_or}
 use Rattle.std.specs.List.{AllByRecursion}
 use Rattle.std.specs.Int.{w16, w32, w64, to_be_bytes}
@@ -10,7 +10,7 @@ use Rattle.vfm_packet.specs.declared.header.Kind.{Kind}
 use Rattle.vfm_packet.specs.declared.header.Kind.TheVariants.{Data, Config, End, Abort}
 use Rattle.vfm_packet.specs.declared.answer.Expect.{Expect}
 use Rattle.vfm_packet.specs.declared.answer.Cause.{Cause}
-use Rattle.vfm_packet.specs.Header.{IsBytes, kind_number, kind_of_number, carries, magic, spare, head_bytes, HasShape, IsHeader}
+use Rattle.vfm_packet.specs.Header.{IsBytes, kind_number, kind_of_number, carries, head_bytes, HasShape, IsHeader}
 use Rattle.vfm_packet.specs.Sound.{IsSound, word_at, kind_at, head_at, knows_stream, has_length, has_zeros, first_failed, head_tests, head_fault}
 use Rattle.vfm_packet.proofs.Words.{word_16, word_32, word_64, magic_of, version_of, kind_of, session_of, stream_of, index_of, length_of, spare_high_of, spare_low_of}
 
@@ -98,17 +98,28 @@ no_fault e h rest is =
     let bytes = head_bytes h ++ rest in
     let shape = is.header.shape in
     let kind : is_some (kind_of_number (word_at w16 6 (head_bytes h ++ rest))) ≡ true =
-        rw (kind_of h rest (kind_below h.kind), kind_again h.kind) refl in
-    let tests : AllByRecursion Held (head_tests e (head_bytes h ++ rest) h) =
-        (eq-eqb _ _ (magic_of h rest),
-         (eq-eqb _ _ is.version,
-          (kind,
-           (and_from _ _ (eq-eqb _ _ is.session) (knows_stream_from (carries h.kind) e h is.stream),
-            (has_length_from (carries h.kind) h shape,
-             (and_from _ _ (and_from _ _ (eq-eqb _ _ (spare_high_of h rest)) (eq-eqb _ _ (spare_low_of h rest))) (has_zeros_from (carries h.kind) h shape),
-              tt)))))) in
+    rw (kind_of h rest (kind_below h.kind), kind_again h.kind) refl in
+    let tests : AllByRecursion Held (head_tests e (head_bytes h ++ rest) h) = (
+      eq-eqb _ _ (magic_of h rest),
+      (
+        eq-eqb _ _ is.version,
+        (
+          kind,
+          (
+            and_from _ _ (eq-eqb _ _ is.session) (knows_stream_from (carries h.kind) e h is.stream),
+            (
+              has_length_from (carries h.kind) h shape,
+              (
+                and_from _ _ (and_from _ _ (eq-eqb _ _ (spare_high_of h rest)) (eq-eqb _ _ (spare_low_of h rest))) (has_zeros_from (carries h.kind) h shape),
+                tt,
+              ),
+            ),
+          ),
+        ),
+      ),
+    ) in
     ap (λ (k : Header). first_failed (head_tests e (head_bytes h ++ rest) k)) (head_at-head_bytes h rest is.header)
-        ∙ first_failed-held (head_tests e (head_bytes h ++ rest) h) tests
+    ∙ first_failed-held (head_tests e (head_bytes h ++ rest) h) tests
 
 -- ---- what passes the tests is spelled
 
@@ -117,25 +128,25 @@ kind_from n e =
     elim (cases_eq n 1) [
       | inl is1 ↦ rw is1 refl
       | inr no1 ↦
-        elim (cases_eq n 2) [
-          | inl is2 ↦ rw is2 refl
-          | inr no2 ↦
-            elim (cases_eq n 3) [
-              | inl is3 ↦ rw is3 refl
-              | inr no3 ↦
-                elim (cases_eq n 4) [
-                  | inl is4 ↦ rw is4 refl
-                  | inr no4 ↦
-                    let none : is_some (kind_of_number n) ≡ false = rw (ne_eqb n 1 no1, ne_eqb n 2 no2, ne_eqb n 3 no3, ne_eqb n 4 no4) refl in
-                    absurd cc
+          elim (cases_eq n 2) [
+            | inl is2 ↦ rw is2 refl
+            | inr no2 ↦
+                elim (cases_eq n 3) [
+                  | inl is3 ↦ rw is3 refl
+                  | inr no3 ↦
+                      elim (cases_eq n 4) [
+                        | inl is4 ↦ rw is4 refl
+                        | inr no4 ↦
+                            let none : is_some (kind_of_number n) ≡ false = rw (ne_eqb n 1 no1, ne_eqb n 2 no2, ne_eqb n 3 no3, ne_eqb n 4 no4) refl in
+                            absurd cc
+                      ]
                 ]
-            ]
-        ]
+          ]
     ]
 
 fields : (l : List ℕ) → take 40 l ≡
     (((((((take 4 (drop 0 l) ++ take 2 (drop 4 l)) ++ take 2 (drop 6 l)) ++ take 8 (drop 8 l)) ++ take 4 (drop 16 l)) ++ take 4 (drop 20 l)) ++ take 4 (drop 24 l))
-        ++ take 8 (drop 28 l)) ++ take 4 (drop 36 l)
+    ++ take 8 (drop 28 l)) ++ take 4 (drop 36 l)
 fields l = rw (take-add 36 4 l, take-add 28 8 l, take-add 24 4 l, take-add 20 4 l, take-add 16 4 l, take-add 8 8 l, take-add 6 2 l, take-add 4 2 l) refl
 
 -- the forty bytes of a header, field by field
@@ -168,20 +179,21 @@ sound_when e bytes fits long none =
     let foreign = and_parts _ _ held.1.1.1.0 in
     let len = held.1.1.1.1.0 in
     let last = and_parts _ _ held.1.1.1.1.1.0 in
-    let zeros = and_parts _ _ last.0 in
-    (record {
-      header = record {
-        version = v.1;
-        session = s.1;
-        stream = t.1;
-        index = i.1;
-        shape = shape_from (carries (kind_at bytes)) (head_at bytes) len last.1;
-      };
-      version = version-is;
-      session = eqb-true _ _ foreign.0;
-      stream = stream_from (carries (kind_at bytes)) e (head_at bytes) foreign.1;
-    },
-    spelled_by bytes (head_at bytes)
-        (sym m.0 ∙ ap (to_be_bytes w32) magic-is) (sym v.0) (sym k.0 ∙ ap (to_be_bytes w16) (sym kind-is))
-        (sym s.0) (sym t.0) (sym i.0) (sym n.0)
-        (sym z.0 ∙ ap (to_be_bytes w64) (eqb-true _ _ zeros.0)) (sym y.0 ∙ ap (to_be_bytes w32) (eqb-true _ _ zeros.1)))
+    let zeros = and_parts _ _ last.0 in (
+      record {
+        header = record {
+          version = v.1;
+          session = s.1;
+          stream = t.1;
+          index = i.1;
+          shape = shape_from (carries (kind_at bytes)) (head_at bytes) len last.1;
+        };
+        version = version-is;
+        session = eqb-true _ _ foreign.0;
+        stream = stream_from (carries (kind_at bytes)) e (head_at bytes) foreign.1;
+      },
+      spelled_by bytes (head_at bytes)
+          (sym m.0 ∙ ap (to_be_bytes w32) magic-is) (sym v.0) (sym k.0 ∙ ap (to_be_bytes w16) (sym kind-is))
+          (sym s.0) (sym t.0) (sym i.0) (sym n.0)
+          (sym z.0 ∙ ap (to_be_bytes w64) (eqb-true _ _ zeros.0)) (sym y.0 ∙ ap (to_be_bytes w32) (eqb-true _ _ zeros.1)),
+    )

@@ -1,20 +1,18 @@
 -- What is read of a channel is a reading of it, and no refusal means that it is sound.
-use Rattle.std.proofs.Common.{◌≡◌, ℕ, zero, suc, ◌+◌, ◌-◌, ◌^◌, ◌<◌, ◌≤◌, Bool, true, false, cond, ltb, List, [], ◌∷◌, ◌++◌, length, take, drop, Option, Some, None, refl, sym, ap, subst, ◌∙◌, inl, inr, ◌⊎◌, append_assoc, zero-add, arith}
-use Rattle.std.specs.Prelude.{IsTrue}
+use Rattle.std.proofs.Common.{◌≡◌, ℕ, zero, suc, ◌+◌, ◌<◌, ◌≤◌, Bool, true, false, List, [], ◌∷◌, ◌++◌, length, drop, Option, Some, None, refl, sym, ap, subst, ◌∙◌, inl, inr, append_assoc, zero-add, arith}
 use Rattle.std.specs.List.{AllByRecursion}
-use Rattle.std.proofs.lemmas.Bool.{cases_lt, lt-ltb, le-ltb, ltb-true, ltb-false, cases_Bool}
+use Rattle.std.proofs.lemmas.Bool.{cases_lt, lt-ltb, le-ltb, ltb-true, ltb-false}
 use Rattle.std.proofs.lemmas.List.{length-append, length-take, length-drop, take_all}
 use Rattle.vfm_packet.specs.declared.header.Header.{Header}
 use Rattle.vfm_packet.specs.declared.header.Kind.{Kind}
 use Rattle.vfm_packet.specs.declared.header.Kind.TheVariants.{Data, Config, End, Abort}
 use Rattle.vfm_packet.specs.declared.answer.Expect.{Expect}
-use Rattle.vfm_packet.specs.declared.answer.Cause.{Cause}
 use Rattle.vfm_packet.specs.declared.answer.Decoded.{Decoded}
 use Rattle.vfm_packet.specs.declared.answer.Decoded.TheVariants as answers
 use Rattle.vfm_packet.specs.Header.{IsBytes, carries}
 use Rattle.vfm_packet.specs.Packet.{Packet, packet_at, packet_bytes, packet_size, IsSoundPacket}
 use Rattle.vfm_packet.specs.Answer.{decoded, BeginsWith, IsPartial}
-use Rattle.vfm_packet.specs.Channel.{IsCarried, all_bytes, Stands, mark_size, IsSoundChannel, Refusal, Bad, Aborted, Truncated, NoEnd, AfterEnd, TooLong, judged, is_over, Says, IsReading, Reading, ends, brings, unfinished, behind_end, on_packet, on_answer, reading_of, reading_at, reading_within}
+use Rattle.vfm_packet.specs.Channel.{IsCarried, all_bytes, Stands, mark_size, IsSoundChannel, Refusal, Bad, Aborted, judged, is_over, Says, IsReading, Reading, ends, brings, unfinished, behind_end, on_packet, on_answer, reading_of, reading_at, reading_within}
 use Rattle.vfm_packet.proofs.Words.{IsBytes-drop, IsBytes-take}
 use Rattle.vfm_packet.proofs.Decoding.{Reads, reads}
 use Rattle.vfm_packet.proofs.Packets.{length-packet_bytes, packet_was}
@@ -42,7 +40,7 @@ sees_packet : (limit : ℕ) (e : Expect) (over : Bool) (place : ℕ) (rest : Lis
     → IsCarried e p → rest ≡ packet_bytes p ++ after → Sees limit e over (place + packet_size p.head) after r → Sees limit e over place rest (brings p r)
 sees_packet limit e over place rest p after r is parts sees =
     let next : place + packet_size p.head + length (all_bytes r.packets) ≡ place + length (all_bytes (p ∷ r.packets)) =
-        omega (arith, length-append (packet_bytes p) (all_bytes r.packets), length-packet_bytes p is.sound.len) in
+    omega (arith, length-append (packet_bytes p) (all_bytes r.packets), length-packet_bytes p is.sound.len) in
     record {
       back = sees.back;
       each = (is, sees.each);
@@ -95,8 +93,8 @@ sees_kind End limit e over place rest h used go of_kind begins size total next =
     let whole = begins.whole in
     let sum : place + length rest ≡ place + mark_size e + length (drop used rest) = omega (arith, length-drop used rest) in
     sees_nothing limit e over place rest (behind_end limit over (place + used) (drop used rest))
-        (subst (λ (n : ℕ). Says limit e over place rest (behind_end limit over (place + n) (drop used rest))) (sym mark)
-            (says_end limit e over place rest (drop used rest) stands (judged_behind limit over (place + length rest) (place + mark_size e + length (drop used rest)) sum total)))
+    (subst (λ (n : ℕ). Says limit e over place rest (behind_end limit over (place + n) (drop used rest))) (sym mark)
+    (says_end limit e over place rest (drop used rest) stands (judged_behind limit over (place + length rest) (place + mark_size e + length (drop used rest)) sum total)))
 sees_kind Abort limit e over place rest h used go of_kind begins size total next =
     let there = packet_stands e rest h used begins size in
     let stands : Stands e Abort rest (drop used rest) = record { packet = packet_at h rest; sound = there.0; of_kind = of_kind; spelled = there.1 } in
@@ -121,14 +119,14 @@ sees zero limit e over place rest fits in_n total =
     sees_nothing limit e over place rest (unfinished over place rest) (says_unfinished limit e over place rest (inl few))
 sees (suc n) limit e over place rest fits in_n total =
     sees_answer (decoded e rest) limit e over place rest (λ next after. reading_of n limit e over next after) (reads e rest fits) total
-        (λ h used begins size.
-            let whole = begins.whole in
-            let shorter = length-drop used rest in
-            let here : place + used ≡ place + packet_size h = omega (arith, size) in
-            let sum : place + length rest ≡ place + used + length (drop used rest) = omega (arith, size) in
-            subst (λ (p : ℕ). Sees limit e over p (drop used rest) (reading_of n limit e over (place + used) (drop used rest))) here
-                (sees n limit e over (place + used) (drop used rest) (IsBytes-drop used rest fits) (omega (arith, size))
-                    (judged_behind limit over (place + length rest) (place + used + length (drop used rest)) sum total)))
+    (λ h used begins size.
+    let whole = begins.whole in
+    let shorter = length-drop used rest in
+    let here : place + used ≡ place + packet_size h = omega (arith, size) in
+    let sum : place + length rest ≡ place + used + length (drop used rest) = omega (arith, size) in
+    subst (λ (p : ℕ). Sees limit e over p (drop used rest) (reading_of n limit e over (place + used) (drop used rest))) here
+    (sees n limit e over (place + used) (drop used rest) (IsBytes-drop used rest fits) (omega (arith, size))
+    (judged_behind limit over (place + length rest) (place + used + length (drop used rest)) sum total)))
 
 judged_total : (limit : ℕ) (bytes : List ℕ) (over : Bool) → is_over limit bytes ≡ over → IsJudged limit over (0 + length (judged limit bytes))
 judged_total limit bytes true is = omega (arith, ltb-true limit (length bytes) is, length-take (limit + 1) bytes)
@@ -139,13 +137,13 @@ pub reads_channel : (limit : ℕ) (e : Expect) (bytes : List ℕ) → IsBytes by
     → IsReading limit e bytes (reading_within limit e bytes).packets (reading_within limit e bytes).refusal
 reads_channel limit e bytes fits =
     let s = sees (length (judged limit bytes)) limit e (is_over limit bytes) 0 (judged limit bytes) (IsBytes-take (limit + 1) bytes fits) (omega arith)
-        (judged_total limit bytes (is_over limit bytes) refl) in
+    (judged_total limit bytes (is_over limit bytes) refl) in
     record {
       rest = s.back;
       each = s.each;
       spelled = s.spelled;
       says = subst (λ (n : ℕ). Says limit e (is_over limit bytes) n s.back (reading_within limit e bytes).refusal)
-        (zero-add (length (all_bytes (reading_within limit e bytes).packets))) s.says;
+          (zero-add (length (all_bytes (reading_within limit e bytes).packets))) s.says;
     }
 
 -- ---- sound channels
@@ -177,12 +175,12 @@ reads_sound limit e bytes fits none =
 pub judged_front : (limit : ℕ) (e : Expect) (bytes : List ℕ) → reading_within limit e (judged limit bytes) ≡ reading_within limit e bytes
 judged_front limit e bytes =
     let over : is_over limit (judged limit bytes) ≡ is_over limit bytes =
-        elim (cases_lt limit (length bytes)) [
-          | inl past ↦ lt-ltb limit (length (judged limit bytes)) (omega (arith, length-take (limit + 1) bytes)) ∙ sym (lt-ltb limit (length bytes) past)
-          | inr short ↦ le-ltb limit (length (judged limit bytes)) (omega (arith, length-take (limit + 1) bytes)) ∙ sym (le-ltb limit (length bytes) short)
-        ] in
+    elim (cases_lt limit (length bytes)) [
+      | inl past ↦ lt-ltb limit (length (judged limit bytes)) (omega (arith, length-take (limit + 1) bytes)) ∙ sym (lt-ltb limit (length bytes) past)
+      | inr short ↦ le-ltb limit (length (judged limit bytes)) (omega (arith, length-take (limit + 1) bytes)) ∙ sym (le-ltb limit (length bytes) short)
+    ] in
     ap (λ (o : Bool). reading_at limit e o 0 (judged limit (judged limit bytes))) over
-        ∙ ap (λ (l : List ℕ). reading_at limit e (is_over limit bytes) 0 l) (judged_all limit (judged limit bytes) (omega (arith, length-take (limit + 1) bytes)))
+    ∙ ap (λ (l : List ℕ). reading_at limit e (is_over limit bytes) 0 l) (judged_all limit (judged limit bytes) (omega (arith, length-take (limit + 1) bytes)))
 
 -- a packet that is decoded was spelled
 pub decoded_was : (e : Expect) (bytes : List ℕ) (h : Header) (used : ℕ) → IsBytes bytes → decoded e bytes ≡ answers.Packet h used

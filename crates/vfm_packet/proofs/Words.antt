@@ -1,5 +1,5 @@
 -- The numbers of a header, in its bytes and out of them.
-use Rattle.std.proofs.Common.{◌≡◌, ℕ, zero, suc, ◌+◌, ◌-◌, ◌^◌, ◌<◌, ◌≤◌, List, [], ◌∷◌, ◌++◌, length, get_or, take, drop, refl, sym, ap, ◌∙◌, inl, inr, arith}
+use Rattle.std.proofs.Common.{◌≡◌, ℕ, ◌+◌, ◌^◌, ◌<◌, ◌≤◌, List, ◌++◌, length, take, drop, refl, ap, ◌∙◌, inl, inr, arith}
 use Rattle.std.specs.Int.{Width, w16, w32, w64, byte_len, from_be_bytes, to_be_bytes}
 use Rattle.std.proofs.lemmas.Bool.{cases_lt}
 use Rattle.std.proofs.lemmas.List.{length-take, length-drop, take-append-le, drop-append-le, get_or-drop, get_or-take, get_or_past}
@@ -48,9 +48,10 @@ pub word_64 : (place : ℕ) (bytes : List ℕ) → place + 8 ≤ length bytes �
 unfolding word_at
 word_64 place bytes h fits =
     let piece = take 8 (drop place bytes) in
-    let each = IsBytes-piece 8 place bytes fits in
-    (be_bytes_8 piece _ (piece_len 8 place bytes h) each refl,
-     omega (arith, each 0, each 1, each 2, each 3, each 4, each 5, each 6, each 7))
+    let each = IsBytes-piece 8 place bytes fits in (
+      be_bytes_8 piece _ (piece_len 8 place bytes h) each refl,
+      omega (arith, each 0, each 1, each 2, each 3, each 4, each 5, each 6, each 7),
+    )
 
 -- ---- what follows doesn't matter
 
@@ -58,8 +59,8 @@ pub word_stays : (w : Width) (place : ℕ) (bytes more : List ℕ) → place + b
 unfolding word_at
 word_stays w place bytes more h =
     let piece : take (byte_len w) (drop place (bytes ++ more)) ≡ take (byte_len w) (drop place bytes) =
-        ap (λ (l : List ℕ). take (byte_len w) l) (drop-append-le place bytes more (omega arith))
-            ∙ take-append-le (byte_len w) (drop place bytes) more (omega (arith, length-drop place bytes)) in
+    ap (λ (l : List ℕ). take (byte_len w) l) (drop-append-le place bytes more (omega arith))
+    ∙ take-append-le (byte_len w) (drop place bytes) more (omega (arith, length-drop place bytes)) in
     ap (from_be_bytes w) piece
 
 -- ---- in bytes: each number of a header is found at its place

@@ -1,5 +1,5 @@
 -- What stands at the front of some bytes: a packet, less than one, or no sound header.
-use Rattle.std.specs.Prelude.{◌≡◌, ℕ, ◌+◌, ◌<◌, ◌≤◌, ◌⊎◌, Bool, true, false, if◌then◌else◌, nat_lt, Option, Some, None, List, ◌++◌, length, take}
+use Rattle.std.specs.Prelude.{◌≡◌, ℕ, ◌<◌, ◌≤◌, ◌⊎◌, if◌then◌else◌, nat_lt, Option, Some, None, List, length, take}
 use Rattle.vfm_packet.specs.declared.header.Header.{Header}
 use Rattle.vfm_packet.specs.declared.answer.Expect.{Expect}
 use Rattle.vfm_packet.specs.declared.answer.Cause.{Cause}

@@ -8,9 +8,9 @@ use Rattle.vfm_packet.specs.declared.answer.Expect.{Expect}
 use Rattle.vfm_packet.specs.declared.answer.Cause.{Cause}
 use Rattle.vfm_packet.specs.declared.answer.Decoded.{Decoded}
 use Rattle.vfm_packet.specs.declared.answer.Decoded.TheVariants as answers
-use Rattle.vfm_packet.specs.Header.{carries, head_bytes}
-use Rattle.vfm_packet.specs.Sound.{IsSound, head_fault}
-use Rattle.vfm_packet.specs.Packet.{Packet, packet_at, packet_bytes, packet_size, seal_len, IsSoundPacket}
+use Rattle.vfm_packet.specs.Header.{carries}
+use Rattle.vfm_packet.specs.Sound.{head_fault}
+use Rattle.vfm_packet.specs.Packet.{Packet, packet_at, packet_bytes, seal_len, IsSoundPacket}
 use Rattle.vfm_packet.specs.Answer.{decoded, IsPartial}
 
 -- the most bytes that a channel may have

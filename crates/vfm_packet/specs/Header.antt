@@ -1,5 +1,5 @@
 -- The header of a packet: its kinds, its one spelling, and which headers there are.
-use Rattle.std.specs.Prelude.{◌≡◌, ℕ, ◌+◌, ◌^◌, ◌<◌, ◌≤◌, ◌==◌, Bool, true, false, if◌then◌else◌, Option, Some, None, List, [], ◌∷◌, ◌++◌, slice_index}
+use Rattle.std.specs.Prelude.{◌≡◌, ℕ, ◌^◌, ◌<◌, ◌≤◌, ◌==◌, Bool, true, false, if◌then◌else◌, Option, Some, None, List, [], ◌∷◌, ◌++◌, slice_index}
 use Rattle.std.specs.Int.{w16, w32, w64, to_be_bytes}
 use Rattle.vfm_packet.specs.declared.header.Header.{Header}
 use Rattle.vfm_packet.specs.declared.header.Kind.{Kind}

@@ -3,3 +3,4 @@ pub mod Sound
 pub mod Packet
 pub mod Answer
 pub mod Channel
+pub mod Worked

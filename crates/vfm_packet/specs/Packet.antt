@@ -1,8 +1,8 @@
 -- A whole packet: its header, its payload, and what would follow the payload.
-use Rattle.std.specs.Prelude.{◌≡◌, ℕ, ◌+◌, IsTrue, List, [], ◌∷◌, ◌++◌, length, take, drop}
+use Rattle.std.specs.Prelude.{◌≡◌, ℕ, ◌+◌, List, [], ◌++◌, length, take, drop}
 use Rattle.vfm_packet.specs.declared.header.Header.{Header}
 use Rattle.vfm_packet.specs.declared.answer.Expect.{Expect}
-use Rattle.vfm_packet.specs.Header.{carries, head_bytes}
+use Rattle.vfm_packet.specs.Header.{head_bytes}
 use Rattle.vfm_packet.specs.Sound.{IsSound}
 
 -- a packet: a header and its payload

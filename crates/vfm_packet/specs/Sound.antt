@@ -1,5 +1,5 @@
 -- Sound headers: what is expected of them, and the tests of forty bytes in their order.
-use Rattle.std.specs.Prelude.{◌≡◌, ℕ, ◌+◌, ◌<◌, ◌==◌, ◌&&◌, ◌||◌, Bool, true, false, if◌then◌else◌, IsTrue, nat_lt, nat_le, is_some, unwrap_or, Option, Some, None, List, [], ◌∷◌, take, drop}
+use Rattle.std.specs.Prelude.{◌≡◌, ℕ, ◌<◌, ◌==◌, ◌&&◌, Bool, true, false, if◌then◌else◌, IsTrue, nat_lt, nat_le, is_some, unwrap_or, Option, Some, None, List, [], ◌∷◌, take, drop}
 use Rattle.std.specs.Int.{Width, w16, w32, w64, byte_len, from_be_bytes}
 use Rattle.vfm_packet.specs.declared.header.Header.{Header}
 use Rattle.vfm_packet.specs.declared.header.Kind.{Kind}

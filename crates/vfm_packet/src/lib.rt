@@ -10,9 +10,14 @@ mod writer;
 pub use answer::{Cause, Decoded, Expect};
 pub use header::{CHANNEL_LIMIT, HEAD_LEN, Header, Kind, PAYLOAD_LIMIT, packet_size};
 pub use laws::{
-    answer_stays, decoded_packet_is_spelled, judged_to_the_limit, limit_of_a_channel, no_refusal_where_sound,
-    one_reading, one_spelling_of_a_header, one_spelling_of_a_packet, reading_by_answer, reading_goes_on,
-    spelled_packet_is_decoded,
+    answer_stays, decoded_packet_is_spelled, judged_to_the_limit, limit_of_a_channel,
+    no_refusal_where_sound, one_reading, one_spelling_of_a_header, one_spelling_of_a_packet,
+    reading_by_answer, reading_goes_on, spelled_packet_is_decoded,
 };
 pub use reader::decode;
 pub use writer::encode_head;
+
+#[cfg(test)]
+mod tests;
+#[cfg(test)]
+mod worked;

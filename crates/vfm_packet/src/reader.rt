@@ -57,21 +57,33 @@ fn carries(kind: Kind) -> bool
 fn knows_stream(head: &Header, expect: &Expect) -> bool
     ensures { result ≡ knows_stream (carries head.now.kind) expect.now head.now }
 {
-    if carries(head.kind) { head.stream < expect.streams } else { true }
+    if carries(head.kind) {
+        head.stream < expect.streams
+    } else {
+        true
+    }
 }
 
 // Whether a payload can have this length, where there is one.
 fn has_length(head: &Header) -> bool
     ensures { result ≡ has_length (carries head.now.kind) head.now }
 {
-    if carries(head.kind) { 0 < head.length && head.length <= PAYLOAD_LIMIT } else { true }
+    if carries(head.kind) {
+        0 < head.length && head.length <= PAYLOAD_LIMIT
+    } else {
+        true
+    }
 }
 
 // Whether what a packet without payload has no use for is zero.
 fn has_zeros(head: &Header) -> bool
     ensures { result ≡ has_zeros (carries head.now.kind) head.now }
 {
-    if carries(head.kind) { true } else { head.stream == 0 && head.index == 0 && head.length == 0 }
+    if carries(head.kind) {
+        true
+    } else {
+        head.stream == 0 && head.index == 0 && head.length == 0
+    }
 }
 
 // The header that stands at the front, with this version and kind.
@@ -93,11 +105,9 @@ fn header_at(version: u16, kind: Kind, bytes: &[u8]) -> Header
 #[tactic(auto, unfolding(crate::specs::Sound::head_fault))]
 fn sound_head(bytes: &[u8], expect: &Expect) -> Result<Header, Cause>
     requires { 40 ≤ length bytes.now }
-    ensures {
-        MatchResult result
-            (λ head. (head_fault expect.now bytes.now ≡ None) × (head ≡ head_at bytes.now))
-            (λ cause. head_fault expect.now bytes.now ≡ Some cause)
-    }
+    ensures { MatchResult result
+        (λ head. (head_fault expect.now bytes.now ≡ None) × (head ≡ head_at bytes.now))
+        (λ cause. head_fault expect.now bytes.now ≡ Some cause) }
 {
     if u32_at(bytes, 0) != MAGIC {
         return Err(Cause::Magic);
@@ -134,7 +144,11 @@ fn answer(bytes: &[u8], expect: &Expect) -> Decoded
     match sound_head(bytes, expect) {
         Ok(head) => {
             let used = packet_size(&head);
-            if bytes.len() < used { Decoded::More } else { Decoded::Packet { head, used } }
+            if bytes.len() < used {
+                Decoded::More
+            } else {
+                Decoded::Packet { head, used }
+            }
         }
         Err(cause) => Decoded::Bad { cause },
     }
@@ -144,17 +158,13 @@ fn answer(bytes: &[u8], expect: &Expect) -> Decoded
 /// What follows a packet isn't looked at, and no memory is taken.
 pub fn decode(bytes: &[u8], expect: &Expect) -> Decoded
     // Exactly a sound header with all that it announces is a packet.
-    ensures packet {
-        (head : Header) (used : ℕ) → (result ≡ Decoded.Packet head used)
-            ↔ (BeginsWith expect.now bytes.now head × (used ≡ packet_size head))
-    }
+    ensures packet { (head : Header) (used : ℕ) → (result ≡ Decoded.Packet head used)
+        ↔ (BeginsWith expect.now bytes.now head × (used ≡ packet_size head)) }
     // Fewer than 40 bytes, or a sound header that announces more than there is, ask for more.
     ensures more { (result ≡ Decoded.More) ↔ IsPartial expect.now bytes.now }
     // 40 bytes that spell no sound header are refused, for the first test of the order that fails.
-    ensures bad {
-        (cause : Cause) → (result ≡ Decoded.Bad cause)
-            ↔ (HasNoHeader expect.now bytes.now × (head_fault expect.now bytes.now ≡ Some cause))
-    }
+    ensures bad { (cause : Cause) → (result ≡ Decoded.Bad cause)
+        ↔ (HasNoHeader expect.now bytes.now × (head_fault expect.now bytes.now ≡ Some cause)) }
     ensures exact { result ≡ decoded expect.now bytes.now }
 {
     answer(bytes, expect)
