@@ -15,7 +15,9 @@ use Rattle.vfm_packet.specs.Header.{carries, HasShape}
 use Rattle.vfm_packet.specs.Sound.{head_at, head_fault}
 use Rattle.vfm_packet.specs.Packet.{Packet, packet_at, packet_bytes, packet_size, seal_len, IsSoundPacket}
 use Rattle.vfm_packet.specs.Answer.{decoded, decoded_behind, IsPartial}
-use Rattle.vfm_packet.specs.Channel.{IsCarried, all_bytes, Stands, mark_size, Refusal, Bad, Aborted, Truncated, NoEnd, AfterEnd, TooLong, is_over, Says, IsReading, Reading, ends, brings, brings_all, unfinished, behind_end, on_packet, on_answer, reading_of, reading_at, reading_within}
+use Rattle.vfm_packet.specs.Channel.{IsCarried, all_bytes, Stands, mark_size}
+use Rattle.vfm_packet.specs.Refusal.{Refusal, Bad, Aborted, Truncated, NoEnd, AfterEnd, TooLong, is_over, Says, IsReading}
+use Rattle.vfm_packet.specs.Reading.{Reading, ends, brings, brings_all, unfinished, behind_end, on_packet, on_answer, reading_of, reading_at, reading_within}
 use Rattle.vfm_packet.proofs.Decoding.{partial_reads, bad_reads}
 use Rattle.vfm_packet.proofs.Packets.{length-packet_bytes, packet_again, packet_at-packet_bytes, behind_packet}
 

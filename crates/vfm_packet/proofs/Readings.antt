@@ -12,11 +12,13 @@ use Rattle.vfm_packet.specs.declared.answer.Decoded.TheVariants as answers
 use Rattle.vfm_packet.specs.Header.{IsBytes, carries}
 use Rattle.vfm_packet.specs.Packet.{Packet, packet_at, packet_bytes, packet_size, IsSoundPacket}
 use Rattle.vfm_packet.specs.Answer.{decoded, BeginsWith, IsPartial}
-use Rattle.vfm_packet.specs.Channel.{IsCarried, all_bytes, Stands, mark_size, IsSoundChannel, Refusal, Bad, Aborted, judged, is_over, Says, IsReading, Reading, ends, brings, unfinished, behind_end, on_packet, on_answer, reading_of, reading_at, reading_within}
+use Rattle.vfm_packet.specs.Channel.{IsCarried, all_bytes, Stands, mark_size, IsSoundChannel}
+use Rattle.vfm_packet.specs.Refusal.{Refusal, Bad, Aborted, judged, is_over, Says, IsReading}
+use Rattle.vfm_packet.specs.Reading.{Reading, ends, brings, brings_all, unfinished, behind_end, on_packet, on_answer, reading_of, reading_at, reading_within}
 use Rattle.vfm_packet.proofs.Words.{IsBytes-drop, IsBytes-take}
 use Rattle.vfm_packet.proofs.Decoding.{Reads, reads}
 use Rattle.vfm_packet.proofs.Packets.{length-packet_bytes, packet_was}
-use Rattle.vfm_packet.proofs.Channels.{mark_len, is_the_reading}
+use Rattle.vfm_packet.proofs.Channels.{mark_len, goes_on, is_the_reading}
 
 -- how many bytes are judged
 abbrev IsJudged : ℕ → Bool → ℕ → Type 0
@@ -188,3 +190,14 @@ pub decoded_was : (e : Expect) (bytes : List ℕ) (h : Header) (used : ℕ) → 
 decoded_was e bytes h used fits is =
     let found = subst (λ (d : Decoded). Reads e bytes d) is (reads e bytes fits) in
     packet_stands e bytes h used found.0 found.1
+
+-- of what came of a channel, packets are brought, and the reading goes on behind them
+pub received :
+  (packets : List Packet) (limit : ℕ) (e : Expect) (rest : List ℕ) → AllByRecursion (IsCarried e) packets
+  → length (all_bytes packets ++ rest) ≤ limit + 1
+  → reading_within limit e (all_bytes packets ++ rest)
+    ≡ brings_all packets (reading_at limit e (is_over limit (all_bytes packets ++ rest)) (length (all_bytes packets)) rest)
+received packets limit e rest each short =
+    ap (λ (l : List ℕ). reading_at limit e (is_over limit (all_bytes packets ++ rest)) 0 l) (judged_all limit (all_bytes packets ++ rest) short)
+        ∙ goes_on packets limit e (is_over limit (all_bytes packets ++ rest)) 0 rest each
+        ∙ ap (λ (n : ℕ). brings_all packets (reading_at limit e (is_over limit (all_bytes packets ++ rest)) n rest)) (zero-add (length (all_bytes packets)))

@@ -13,7 +13,9 @@ ghost use Rattle.vfm_packet.specs.declared.answer.Decoded.TheVariants as answers
 ghost use Rattle.vfm_packet.specs.Header.{IsBytes, IsHeader, carries, head_bytes};
 ghost use Rattle.vfm_packet.specs.Packet.{Packet, packet_at, packet_bytes, packet_size, IsSoundPacket};
 ghost use Rattle.vfm_packet.specs.Answer.{decoded};
-ghost use Rattle.vfm_packet.specs.Channel.{channel_limit, IsCarried, all_bytes, IsSoundChannel, Refusal, Bad, Aborted, judged, IsReading, Reading, ends, brings, brings_all, unfinished, behind_end, reading_at, reading_within, reading};
+ghost use Rattle.vfm_packet.specs.Channel.{channel_limit, IsCarried, all_bytes, IsSoundChannel};
+ghost use Rattle.vfm_packet.specs.Refusal.{Refusal, Bad, Aborted, judged, IsReading, is_over};
+ghost use Rattle.vfm_packet.specs.Reading.{Reading, ends, brings, brings_all, unfinished, behind_end, reading_at, reading_within, reading};
 
 use crate::header::CHANNEL_LIMIT;
 
@@ -80,10 +82,15 @@ pub fn judged_to_the_limit()
 
 /// Packets that stand one after the other are brought, and the reading goes on behind them.
 pub fn reading_goes_on()
-    ensures { (packets : List Packet) (limit : ℕ) (e : Expect) (over : Bool) (place : ℕ) (rest : List ℕ)
+    ensures behind { (packets : List Packet) (limit : ℕ) (e : Expect) (over : Bool) (place : ℕ) (rest : List ℕ)
         → AllByRecursion (IsCarried e) packets
         → reading_at limit e over place (all_bytes packets ++ rest)
         ≡ brings_all packets (reading_at limit e over (place + length (all_bytes packets)) rest) }
+    // so of all that came of a channel, of which a reader takes no more than a byte past the limit
+    ensures received { (packets : List Packet) (limit : ℕ) (e : Expect) (rest : List ℕ)
+        → AllByRecursion (IsCarried e) packets → length (all_bytes packets ++ rest) ≤ limit + 1
+        → reading_within limit e (all_bytes packets ++ rest)
+        ≡ brings_all packets (reading_at limit e (is_over limit (all_bytes packets ++ rest)) (length (all_bytes packets)) rest) }
 {}
 
 /// What a reading comes to at a place, by what stands there.

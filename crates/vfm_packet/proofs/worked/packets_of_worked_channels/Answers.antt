@@ -2,7 +2,7 @@
 use Rattle.std.proofs.Common.{refl}
 use Rattle.vfm_packet.specs.Sound.{word_at, head_fault}
 use Rattle.vfm_packet.specs.Answer.{decoded}
-use Rattle.vfm_packet.specs.Channel.{reading_of}
+use Rattle.vfm_packet.specs.Reading.{reading_of}
 use Rattle.vfm_packet.proofs.worked.packets_of_worked_channels.Goals as goal
 
 pub returns-clause-sound : goal.returns-clause-sound
