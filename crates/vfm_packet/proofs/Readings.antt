@@ -193,11 +193,11 @@ decoded_was e bytes h used fits is =
 
 -- of what came of a channel, packets are brought, and the reading goes on behind them
 pub received :
-  (packets : List Packet) (limit : ℕ) (e : Expect) (rest : List ℕ) → AllByRecursion (IsCarried e) packets
-  → length (all_bytes packets ++ rest) ≤ limit + 1
-  → reading_within limit e (all_bytes packets ++ rest)
+    (packets : List Packet) (limit : ℕ) (e : Expect) (rest : List ℕ) → AllByRecursion (IsCarried e) packets
+    → length (all_bytes packets ++ rest) ≤ limit + 1
+    → reading_within limit e (all_bytes packets ++ rest)
     ≡ brings_all packets (reading_at limit e (is_over limit (all_bytes packets ++ rest)) (length (all_bytes packets)) rest)
 received packets limit e rest each short =
     ap (λ (l : List ℕ). reading_at limit e (is_over limit (all_bytes packets ++ rest)) 0 l) (judged_all limit (all_bytes packets ++ rest) short)
-        ∙ goes_on packets limit e (is_over limit (all_bytes packets ++ rest)) 0 rest each
-        ∙ ap (λ (n : ℕ). brings_all packets (reading_at limit e (is_over limit (all_bytes packets ++ rest)) n rest)) (zero-add (length (all_bytes packets)))
+    ∙ goes_on packets limit e (is_over limit (all_bytes packets ++ rest)) 0 rest each
+    ∙ ap (λ (n : ℕ). brings_all packets (reading_at limit e (is_over limit (all_bytes packets ++ rest)) n rest)) (zero-add (length (all_bytes packets)))

@@ -1,4 +1,10 @@
 //! The packets that carry a migration over a channel: how a header is spelled and read, and what a whole channel says.
+//!
+//! The format stands in `specs/`: `Header` has the kinds, the spelling of a header and which headers there are, `Sound`
+//! the tests of forty bytes in their order, `Packet` a header with its payload (and the one place for bytes behind a
+//! payload, of which there are none in version 1), `Answer` what may stand at the front of some bytes, `Channel` the
+//! sound channels, `Refusal` why and where another is refused, and `Reading` the same computed packet after packet.
+//! The laws that join them are the functions of `laws.rt`. Nothing here takes memory.
 #![tactic(auto)]
 
 mod answer;
