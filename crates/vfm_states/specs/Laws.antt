@@ -1,7 +1,7 @@
 -- What the laws of the table speak of: the steps of a path, its end, its interior, and how a running device comes to stop.
-use Rattle.std.specs.Prelude.{ℕ, ◌&&◌, not, Bool, true, false, Result, Ok, Err, List, [], ◌∷◌}
+use Rattle.std.specs.Prelude.{ℕ, ◌&&◌, not, Bool, true, false, Ok, Err, List, [], ◌∷◌}
 use Rattle.vfm_types.specs.declared.state.MigState.{MigState}
-use Rattle.vfm_types.specs.declared.state.MigState.TheVariants.{Error, Stop, Running, StopCopy, Resuming, RunningP2p, PreCopy, PreCopyP2p}
+use Rattle.vfm_types.specs.declared.state.MigState.TheVariants.{Stop, Running, StopCopy, Resuming, RunningP2p, PreCopy, PreCopyP2p}
 use Rattle.vfm_types.specs.Paths.{same_state, next_of}
 
 -- each step of a path, from a state to the one after it, passes the test

@@ -5,21 +5,24 @@
 ghost use Rattle.std.specs.Prelude.{◌≡◌};
 ghost use Rattle.vfm_types.specs.Paths.{step_towards, supports};
 
-use vfm_types::{Flags, MigState};
+use vfm_types::Flags;
+use vfm_types::MigState::{
+    self, Error, PreCopy, PreCopyP2p, Resuming, Running, RunningP2p, Stop, StopCopy,
+};
 
 /// The table's next state from one state towards another, or `None` where the protocol refuses the way.
 pub(crate) fn step(from: MigState, to: MigState) -> Option<MigState>
     ensures { result ≡ step_towards from to }
 {
     match from {
-        MigState::Error => None,
-        MigState::Stop => from_stop(to),
-        MigState::Running => from_running(to),
-        MigState::StopCopy => from_stop_copy(to),
-        MigState::Resuming => from_resuming(to),
-        MigState::RunningP2p => from_running_p2p(to),
-        MigState::PreCopy => from_pre_copy(to),
-        MigState::PreCopyP2p => from_pre_copy_p2p(to),
+        Error => None,
+        Stop => from_stop(to),
+        Running => from_running(to),
+        StopCopy => from_stop_copy(to),
+        Resuming => from_resuming(to),
+        RunningP2p => from_running_p2p(to),
+        PreCopy => from_pre_copy(to),
+        PreCopyP2p => from_pre_copy_p2p(to),
     }
 }
 
@@ -28,14 +31,10 @@ pub(crate) fn has_state(flags: Flags, state: MigState) -> bool
     ensures { result ≡ supports flags state }
 {
     match state {
-        MigState::RunningP2p => flags.has_p2p(),
-        MigState::PreCopy => flags.has_pre_copy(),
-        MigState::PreCopyP2p => flags.has_p2p() && flags.has_pre_copy(),
-        MigState::Error
-        | MigState::Stop
-        | MigState::Running
-        | MigState::StopCopy
-        | MigState::Resuming => true,
+        Error | Stop | Running | StopCopy | Resuming => true,
+        RunningP2p => flags.has_p2p(),
+        PreCopy => flags.has_pre_copy(),
+        PreCopyP2p => flags.has_p2p() && flags.has_pre_copy(),
     }
 }
 
@@ -44,14 +43,11 @@ fn from_stop(to: MigState) -> Option<MigState>
     ensures { result ≡ step_towards MigState.Stop to }
 {
     match to {
-        MigState::Error => None,
-        MigState::Stop => Some(MigState::Stop),
-        MigState::Running => Some(MigState::RunningP2p),
-        MigState::StopCopy => Some(MigState::StopCopy),
-        MigState::Resuming => Some(MigState::Resuming),
-        MigState::RunningP2p => Some(MigState::RunningP2p),
-        MigState::PreCopy => Some(MigState::RunningP2p),
-        MigState::PreCopyP2p => Some(MigState::RunningP2p),
+        Error => None,
+        Stop => Some(Stop),
+        StopCopy => Some(StopCopy),
+        Resuming => Some(Resuming),
+        Running | RunningP2p | PreCopy | PreCopyP2p => Some(RunningP2p),
     }
 }
 
@@ -60,30 +56,21 @@ fn from_running(to: MigState) -> Option<MigState>
     ensures { result ≡ step_towards MigState.Running to }
 {
     match to {
-        MigState::Error => None,
-        MigState::Stop => Some(MigState::RunningP2p),
-        MigState::Running => Some(MigState::Running),
-        MigState::StopCopy => Some(MigState::RunningP2p),
-        MigState::Resuming => Some(MigState::RunningP2p),
-        MigState::RunningP2p => Some(MigState::RunningP2p),
-        MigState::PreCopy => Some(MigState::PreCopy),
-        MigState::PreCopyP2p => Some(MigState::PreCopy),
+        Error => None,
+        Running => Some(Running),
+        Stop | StopCopy | Resuming | RunningP2p => Some(RunningP2p),
+        PreCopy | PreCopyP2p => Some(PreCopy),
     }
 }
 
-// The row of STOP_COPY. Its data is read once and for all, so no way leads back to a first part of it.
+// The row of STOP_COPY. A state that is read to its end can't be read from its beginning once more.
 fn from_stop_copy(to: MigState) -> Option<MigState>
     ensures { result ≡ step_towards MigState.StopCopy to }
 {
     match to {
-        MigState::Error => None,
-        MigState::Stop => Some(MigState::Stop),
-        MigState::Running => Some(MigState::Stop),
-        MigState::StopCopy => Some(MigState::StopCopy),
-        MigState::Resuming => Some(MigState::Stop),
-        MigState::RunningP2p => Some(MigState::Stop),
-        MigState::PreCopy => None,
-        MigState::PreCopyP2p => None,
+        Error | PreCopy | PreCopyP2p => None,
+        StopCopy => Some(StopCopy),
+        Stop | Running | Resuming | RunningP2p => Some(Stop),
     }
 }
 
@@ -92,14 +79,9 @@ fn from_resuming(to: MigState) -> Option<MigState>
     ensures { result ≡ step_towards MigState.Resuming to }
 {
     match to {
-        MigState::Error => None,
-        MigState::Stop => Some(MigState::Stop),
-        MigState::Running => Some(MigState::Stop),
-        MigState::StopCopy => Some(MigState::Stop),
-        MigState::Resuming => Some(MigState::Resuming),
-        MigState::RunningP2p => Some(MigState::Stop),
-        MigState::PreCopy => Some(MigState::Stop),
-        MigState::PreCopyP2p => Some(MigState::Stop),
+        Error => None,
+        Resuming => Some(Resuming),
+        Stop | Running | StopCopy | RunningP2p | PreCopy | PreCopyP2p => Some(Stop),
     }
 }
 
@@ -108,14 +90,11 @@ fn from_running_p2p(to: MigState) -> Option<MigState>
     ensures { result ≡ step_towards MigState.RunningP2p to }
 {
     match to {
-        MigState::Error => None,
-        MigState::Stop => Some(MigState::Stop),
-        MigState::Running => Some(MigState::Running),
-        MigState::StopCopy => Some(MigState::Stop),
-        MigState::Resuming => Some(MigState::Stop),
-        MigState::RunningP2p => Some(MigState::RunningP2p),
-        MigState::PreCopy => Some(MigState::Running),
-        MigState::PreCopyP2p => Some(MigState::PreCopyP2p),
+        Error => None,
+        RunningP2p => Some(RunningP2p),
+        Running | PreCopy => Some(Running),
+        PreCopyP2p => Some(PreCopyP2p),
+        Stop | StopCopy | Resuming => Some(Stop),
     }
 }
 
@@ -124,14 +103,10 @@ fn from_pre_copy(to: MigState) -> Option<MigState>
     ensures { result ≡ step_towards MigState.PreCopy to }
 {
     match to {
-        MigState::Error => None,
-        MigState::Stop => Some(MigState::Running),
-        MigState::Running => Some(MigState::Running),
-        MigState::StopCopy => Some(MigState::PreCopyP2p),
-        MigState::Resuming => Some(MigState::Running),
-        MigState::RunningP2p => Some(MigState::Running),
-        MigState::PreCopy => Some(MigState::PreCopy),
-        MigState::PreCopyP2p => Some(MigState::PreCopyP2p),
+        Error => None,
+        PreCopy => Some(PreCopy),
+        StopCopy | PreCopyP2p => Some(PreCopyP2p),
+        Stop | Running | Resuming | RunningP2p => Some(Running),
     }
 }
 
@@ -140,13 +115,10 @@ fn from_pre_copy_p2p(to: MigState) -> Option<MigState>
     ensures { result ≡ step_towards MigState.PreCopyP2p to }
 {
     match to {
-        MigState::Error => None,
-        MigState::Stop => Some(MigState::RunningP2p),
-        MigState::Running => Some(MigState::RunningP2p),
-        MigState::StopCopy => Some(MigState::StopCopy),
-        MigState::Resuming => Some(MigState::RunningP2p),
-        MigState::RunningP2p => Some(MigState::RunningP2p),
-        MigState::PreCopy => Some(MigState::PreCopy),
-        MigState::PreCopyP2p => Some(MigState::PreCopyP2p),
+        Error => None,
+        PreCopyP2p => Some(PreCopyP2p),
+        PreCopy => Some(PreCopy),
+        StopCopy => Some(StopCopy),
+        Stop | Running | Resuming | RunningP2p => Some(RunningP2p),
     }
 }
