@@ -1,1 +1,14 @@
 mod Walks
+mod Below
+mod Rising
+mod Waiting
+mod Effects
+mod Conditions
+mod Queued
+mod Issue
+mod Deliver
+mod Complete
+mod KeptQueues
+mod QueueLaws
+mod Enabled
+mod EndedRuns

@@ -2,6 +2,14 @@
 //! definitions are those of `vfm_types` and `vfm_plain`.
 #![tactic(auto)]
 
+mod ended;
+mod machine;
 mod prefixes;
+mod queue;
 
+pub use ended::ended_is_done;
+pub use machine::{delivery_is_enabled, machine_exists};
 pub use prefixes::{before_is_legal, one_more_is_broken, one_more_is_legal, unbroken_is_legal};
+pub use queue::{
+    accepted_is_done_or_pending, queues_are_kept, undelivered_are_first, window_and_fences_hold,
+};
