@@ -12,3 +12,9 @@ mod KeptQueues
 mod QueueLaws
 mod Enabled
 mod EndedRuns
+mod Steps
+mod Flags
+mod Hold
+mod Arc
+mod Ends
+mod KeptStates
