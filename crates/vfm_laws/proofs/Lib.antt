@@ -1,20 +1,22 @@
-mod Walks
-mod Below
-mod Rising
-mod Waiting
-mod Effects
-mod Conditions
-mod Queued
-mod Issue
-mod Deliver
-mod Complete
-mod KeptQueues
-mod QueueLaws
-mod Enabled
-mod EndedRuns
-mod Steps
-mod Flags
-mod Hold
-mod Arc
-mod Ends
-mod KeptStates
+pub mod Walks
+pub mod Below
+pub mod Rising
+pub mod Waiting
+pub mod Effects
+pub mod Conditions
+pub mod Queued
+pub mod Issue
+pub mod Deliver
+pub mod Complete
+pub mod KeptQueues
+pub mod QueueLaws
+pub mod Enabled
+pub mod EndedRuns
+pub mod Steps
+pub mod Flags
+pub mod Hold
+pub mod Arc
+pub mod Ends
+pub mod KeptStates
+pub mod Cleanness
+pub mod StateLaws
