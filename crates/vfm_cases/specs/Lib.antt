@@ -1,1 +1,10 @@
+pub mod Bare
 pub mod One
+pub mod Lone
+pub mod Peers
+pub mod Trio
+pub mod Bells
+pub mod Rounds
+pub mod Window
+pub mod Sums
+pub mod Reading

@@ -1,14 +1,10 @@
-//! Worked cases of the definitions, each checked by computation: a function without a body whose clause holds by
-//! itself.
+//! Worked cases of the definitions, each checked by computation: functions without a body whose clauses hold by
+//! themselves. Journals are given to `broken` oldest first, and to every fact newest first.
 #![tactic(auto)]
 
-ghost use Rattle.std.specs.Prelude.{◌≡◌, None, Some};
-ghost use Rattle.vfm_plain.specs.Legal.{broken};
-ghost use Rattle.vfm_cases.specs.One.{one, one_source, one_joined};
-
-/// The journal of a machine with one device and one write is legal, the source's followed by the destination's.
-pub fn one_device_is_legal()
-    ensures source { broken one one_source ≡ None }
-    ensures joined { broken one one_joined ≡ None }
-{
-}
+pub mod blocks;
+pub mod marks;
+pub mod paths;
+pub mod plain;
+pub mod runs;
+pub mod states;
