@@ -8,3 +8,6 @@ pub mod Rounds
 pub mod Window
 pub mod Sums
 pub mod Reading
+pub mod Fences
+pub mod Early
+pub mod Faulty

@@ -3,8 +3,13 @@
 #![tactic(auto)]
 
 pub mod blocks;
+pub mod descriptions;
 pub mod marks;
 pub mod paths;
 pub mod plain;
+pub mod refused_arcs;
+pub mod refused_copying;
+pub mod refused_phases;
+pub mod refused_requests;
 pub mod runs;
 pub mod states;
