@@ -11,3 +11,5 @@ pub mod Reading
 pub mod Fences
 pub mod Early
 pub mod Faulty
+pub mod Edits
+pub mod Pair

@@ -4,6 +4,7 @@
 
 pub mod blocks;
 pub mod descriptions;
+pub mod large;
 pub mod marks;
 pub mod paths;
 pub mod plain;
