@@ -1,5 +1,5 @@
 -- Runs of numbered entries, and runs that were changed at one place.
-use Rattle.std.specs.Prelude.{ℕ, ◌+◌, true, List, [], ◌∷◌, ◌++◌, map, take, drop}
+use Rattle.std.specs.Prelude.{ℕ, ◌+◌, true, List, ◌∷◌, ◌++◌, map, take, drop}
 use Rattle.vfm_types.specs.declared.entry.Entry.{Entry}
 use Rattle.vfm_types.specs.declared.entry.Entry.TheVariants.{Copy, Block}
 use Rattle.vfm_types.specs.PageSet.{passing}

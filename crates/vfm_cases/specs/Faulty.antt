@@ -1,9 +1,9 @@
 -- Machines that a description may not describe.
-use Rattle.std.specs.Prelude.{ℕ, List, [], ◌∷◌, replicate}
+use Rattle.std.specs.Prelude.{List, [], ◌∷◌}
 use Rattle.vfm_types.specs.declared.desc.Desc.{Desc}
 use Rattle.vfm_types.specs.declared.job.Job.{Job}
-use Rattle.vfm_types.specs.declared.job.Job.TheVariants.{Write, Read, Store, Add}
-use Rattle.vfm_cases.specs.Bare.{bare_device, second_device, third_device, bare_machine, eight}
+use Rattle.vfm_types.specs.declared.job.Job.TheVariants.{Write, Read}
+use Rattle.vfm_cases.specs.Bare.{bare_device, second_device, bare_machine}
 
 -- two devices, with these jobs of the first
 abbrev pub with_jobs : List Job → Desc
@@ -25,7 +25,7 @@ abbrev pub all_faults : Desc
 all_faults =
     record bare_machine {
       devices =
-        (record bare_device { flags = 1 }) ∷ (record bare_device { jobs = Write 268959744 (1 ∷ []) ∷ Read 12 8 ∷ [] }) ∷ [];
+          (record bare_device { flags = 1 }) ∷ (record bare_device { jobs = Write 268959744 (1 ∷ []) ∷ Read 12 8 ∷ [] }) ∷ [];
     }
 
 -- the same without the first of them
@@ -33,6 +33,6 @@ abbrev pub all_but_names : Desc
 all_but_names =
     record bare_machine {
       devices =
-        (record bare_device { flags = 1 }) ∷ (record second_device { jobs = Write 268959744 (1 ∷ []) ∷ Read 12 8 ∷ [] })
-        ∷ [];
+          (record bare_device { flags = 1 }) ∷ (record second_device { jobs = Write 268959744 (1 ∷ []) ∷ Read 12 8 ∷ [] })
+          ∷ [];
     }

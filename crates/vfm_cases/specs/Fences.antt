@@ -1,6 +1,6 @@
 -- Machines with one device, two places in its window, and a fence in front of a write; the second one can't tell
 -- peer-to-peer DMA from other DMA.
-use Rattle.std.specs.Prelude.{false, List, [], ◌∷◌}
+use Rattle.std.specs.Prelude.{false, [], ◌∷◌}
 use Rattle.vfm_types.specs.declared.desc.Desc.{Desc}
 use Rattle.vfm_types.specs.declared.desc.DevShape.{DevShape}
 use Rattle.vfm_types.specs.declared.job.Job.TheVariants.{Write, Read}

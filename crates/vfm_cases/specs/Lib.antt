@@ -13,3 +13,9 @@ pub mod Early
 pub mod Faulty
 pub mod Edits
 pub mod Pair
+pub mod Printed
+pub mod Solo
+pub mod Duo
+pub mod Three
+pub mod DuoFailing
+pub mod ThreeFailing

@@ -12,21 +12,42 @@ use Rattle.vfm_cases.specs.Edits.{copies, blocks_of}
 abbrev pub nic : DevShape
 nic =
     record {
-      name = 110 ∷ 105 ∷ 99 ∷ []; flags = 7; bar = 4096; window = 2; tells = true; budget = 2; fails = 0;
-      jobs = Write 268959808 (161 ∷ 162 ∷ 163 ∷ 164 ∷ []) ∷ Write 268959744 (replicate 8 0) ∷ []; queue = 0 ∷ 1 ∷ [];
+      name = 110 ∷ 105 ∷ 99 ∷ [];
+      flags = 7;
+      bar = 4096;
+      window = 2;
+      tells = true;
+      budget = 2;
+      fails = 0;
+      jobs = Write 268959808 (161 ∷ 162 ∷ 163 ∷ 164 ∷ []) ∷ Write 268959744 (replicate 8 0) ∷ [];
+      queue = 0 ∷ 1 ∷ [];
     }
 
 abbrev pub gpu : DevShape
 gpu =
     record {
-      name = 103 ∷ 112 ∷ 117 ∷ []; flags = 7; bar = 4096; window = 2; tells = true; budget = 1; fails = 0;
-      jobs = Add 8192 5 ∷ []; queue = [];
+      name = 103 ∷ 112 ∷ 117 ∷ [];
+      flags = 7;
+      bar = 4096;
+      window = 2;
+      tells = true;
+      budget = 1;
+      fails = 0;
+      jobs = Add 8192 5 ∷ [];
+      queue = [];
     }
 
 abbrev pub pair : Desc
 pair =
     record {
-      session = 7; page = 4096; pages = 64; channels = 2; version = 1; begin = 1; rounds = 2; threshold = 4;
+      session = 7;
+      page = 4096;
+      pages = 64;
+      channels = 2;
+      version = 1;
+      begin = 1;
+      rounds = 2;
+      threshold = 4;
       devices = nic ∷ gpu ∷ [];
     }
 

@@ -31,16 +31,14 @@ pub fn worked_machines_are_valid()
     ensures carry { form_fault carry ≡ None }
     ensures reading { form_fault reading ≡ None }
     ensures fences { form_fault fences ≡ None }
-{
-}
+{}
 
 /// A name that stands twice is the fault of its second bearer.
 #[tactic(auto, unfolding(vfm_types::specs::DescFault::form_fault))]
 pub fn names_stand_once()
     ensures second { form_fault same_names ≡ Some (NameTwice 1) }
     ensures third { form_fault first_and_third ≡ Some (NameTwice 2) }
-{
-}
+{}
 
 /// A job's range lies in one page or one BAR.
 #[tactic(auto, unfolding(vfm_types::specs::DescFault::form_fault))]
@@ -50,8 +48,7 @@ pub fn ranges_lie_in_one_place()
     ensures past { form_fault (with_jobs (Read 24 8 ∷ Read 25 8 ∷ [])) ≡ Some (Crosses 0 1) }
     ensures bar { form_fault (with_jobs (Read 268959800 9 ∷ [])) ≡ Some (Crosses 0 0) }
     ensures nowhere { form_fault (with_jobs (Read 269484032 1 ∷ [])) ≡ Some (Crosses 0 0) }
-{
-}
+{}
 
 /// A job isn't aimed at its own device's BAR, and touches the first 8 bytes of another one by a doorbell or a read alone.
 #[tactic(auto, unfolding(vfm_types::specs::DescFault::form_fault))]
@@ -60,11 +57,8 @@ pub fn bars_are_guarded()
     ensures write { form_fault (with_jobs (Write 268959748 (1 ∷ 2 ∷ 3 ∷ 4 ∷ []) ∷ [])) ≡ Some (BellKind 0 0) }
     ensures add { form_fault (with_jobs (Add 268959744 1 ∷ [])) ≡ Some (BellKind 0 0) }
     ensures store { form_fault (with_jobs (Store 268959744 9 ∷ [])) ≡ Some (BellKind 0 0) }
-    ensures fine {
-        form_fault (with_jobs (Store 268959744 8 ∷ Write 268959744 (eight 3) ∷ Read 268959744 3 ∷ Add 268959752 1 ∷ [])) ≡ None
-    }
-{
-}
+    ensures fine { form_fault (with_jobs (Store 268959744 8 ∷ Write 268959744 (eight 3) ∷ Read 268959744 3 ∷ Add 268959752 1 ∷ [])) ≡ None }
+{}
 
 /// Of several devices each has the peer-to-peer states. The first fault counts: names, jobs, then flags.
 #[tactic(auto, unfolding(vfm_types::specs::DescFault::form_fault))]
@@ -72,8 +66,7 @@ pub fn first_fault_counts()
     ensures p2p { form_fault without_p2p ≡ Some (NeedsP2p 1) }
     ensures names { form_fault all_faults ≡ Some (NameTwice 1) }
     ensures jobs { form_fault all_but_names ≡ Some (OwnBar 1 0) }
-{
-}
+{}
 
 /// Pages lie from address 0 on, the BARs 512 KiB apart from 256 MiB on.
 pub fn regions_are_found()
@@ -83,8 +76,7 @@ pub fn regions_are_found()
     ensures bar { region_of peers 268959808 64 ≡ Some (record { region = Bar 1; offset = 64 }) }
     ensures beyond { region_of peers 268959808 65 ≡ None }
     ensures below { region_of peers 268435455 1 ≡ None }
-{
-}
+{}
 
 /// Eight bytes written at offset 0 of a BAR are a doorbell; nothing else is.
 pub fn doorbells_are_known()
@@ -95,5 +87,4 @@ pub fn doorbells_are_known()
     ensures short { is_doorbell peers (Write 268959744 (1 ∷ [])) ≡ false }
     ensures later { is_doorbell peers (Write 268959752 (eight 0)) ≡ false }
     ensures memory { is_doorbell peers (Write 0 (eight 0)) ≡ false }
-{
-}
+{}

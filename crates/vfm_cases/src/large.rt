@@ -16,15 +16,13 @@ pub fn pair_is_moved()
     ensures joined { broken pair pair_joined ≡ None }
     ensures last { is_last_ended pair (reverse pair_source) ≡ true }
     ensures ended { has_ended pair (reverse pair_joined) ≡ true }
-{
-}
+{}
 
 /// The second pass is over the page that the doorbell's request wrote, and the last one over nothing.
 pub fn pair_copies_what_was_written()
     ensures second { passing (λ p. is_in_set pair p (reverse (take 208 pair_source))) 0 64 ≡ 2 ∷ [] }
     ensures last { set_size pair (reverse pair_source) ≡ 0 }
-{
-}
+{}
 
 /// Where it ends, and that the machine that does the least request first ends there too.
 pub fn pair_ends_as_asked()
@@ -33,5 +31,4 @@ pub fn pair_ends_as_asked()
     ensures nic { (device_of (machine_of pair (reverse pair_joined)) 0).done ≡ 2 }
     ensures gpu { (device_of (machine_of pair (reverse pair_joined)) 1).done ≡ 1 }
     ensures serial { serial pair ≡ machine_of pair (reverse pair_joined) }
-{
-}
+{}

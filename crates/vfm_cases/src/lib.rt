@@ -3,6 +3,7 @@
 #![tactic(auto)]
 
 pub mod blocks;
+pub mod changed;
 pub mod descriptions;
 pub mod large;
 pub mod marks;
@@ -13,4 +14,6 @@ pub mod refused_copying;
 pub mod refused_phases;
 pub mod refused_requests;
 pub mod runs;
+pub mod schedules;
 pub mod states;
+pub mod texts;

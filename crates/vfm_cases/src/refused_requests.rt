@@ -19,8 +19,7 @@ pub fn issue_out_of_turn_is_refused()
     ensures third { broken window_two (window_full ++ Issue 0 2 ∷ []) ≡ Some (2, Turn) }
     ensures twice { broken window_two (Issue 0 0 ∷ Issue 0 0 ∷ []) ≡ Some (1, Turn) }
     ensures done { broken one (one_joined ++ Issue 0 0 ∷ []) ≡ Some (15, Turn) }
-{
-}
+{}
 
 /// A fence is issued alone, and nothing beside it, until it is completed and not only delivered.
 pub fn issue_beside_a_fence_is_refused()
@@ -29,8 +28,7 @@ pub fn issue_beside_a_fence_is_refused()
     ensures behind { broken fences (Issue 0 0 ∷ Issue 0 1 ∷ []) ≡ Some (1, Turn) }
     ensures delivered { broken fences (Issue 0 0 ∷ Deliver 0 0 ∷ Issue 0 1 ∷ []) ≡ Some (2, Turn) }
     ensures completed { broken fences (Issue 0 0 ∷ Deliver 0 0 ∷ Complete 0 0 ∷ Issue 0 1 ∷ []) ≡ None }
-{
-}
+{}
 
 /// An issue that the level bars: of a write into a BAR in RUNNING_P2P or held for it, of any request by a device that
 /// can't tell or that is held for STOP.
@@ -40,8 +38,7 @@ pub fn barred_issue_is_refused()
     ensures tells { broken (record fences { begin = 0 }) (Begin ∷ Hold 0 RunningP2p ∷ Issue 0 0 ∷ []) ≡ None }
     ensures mute { broken mute (Begin ∷ Hold 0 RunningP2p ∷ Issue 0 0 ∷ []) ≡ Some (2, Barred) }
     ensures stopped { broken bell (bell_joint ++ Issue 1 0 ∷ []) ≡ Some (15, Barred) }
-{
-}
+{}
 
 /// An issue before the move begins, past what is wanted before it.
 pub fn early_issue_is_refused()
@@ -49,8 +46,7 @@ pub fn early_issue_is_refused()
     ensures begun { broken peers (Begin ∷ Issue 0 0 ∷ []) ≡ None }
     ensures aborted { broken peers (Abort ∷ Issue 0 0 ∷ []) ≡ None }
     ensures second { broken (record window_two { begin = 1 }) window_full ≡ Some (1, Start) }
-{
-}
+{}
 
 /// A delivery of what isn't outstanding, of what was delivered, or of another device's request.
 pub fn wrong_delivery_is_refused()
@@ -59,8 +55,7 @@ pub fn wrong_delivery_is_refused()
     ensures exchanged { broken one (Deliver 0 0 ∷ Issue 0 0 ∷ Complete 0 0 ∷ []) ≡ Some (0, Turn) }
     ensures other { broken peers (Begin ∷ Issue 0 0 ∷ Deliver 1 0 ∷ []) ≡ Some (2, Turn) }
     ensures completed { broken one (one_source ++ Deliver 0 0 ∷ []) ≡ Some (12, Turn) }
-{
-}
+{}
 
 /// A completion of what isn't outstanding, isn't delivered, or was completed.
 pub fn wrong_completion_is_refused()
@@ -68,5 +63,4 @@ pub fn wrong_completion_is_refused()
     ensures undelivered { broken one (Issue 0 0 ∷ Complete 0 0 ∷ []) ≡ Some (1, Turn) }
     ensures twice { broken one (Issue 0 0 ∷ Deliver 0 0 ∷ Complete 0 0 ∷ Complete 0 0 ∷ []) ≡ Some (3, Turn) }
     ensures early { broken window_two (window_full ++ Deliver 0 1 ∷ Complete 0 0 ∷ []) ≡ Some (3, Turn) }
-{
-}
+{}
