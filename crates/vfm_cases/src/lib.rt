@@ -4,6 +4,7 @@
 
 pub mod blocks;
 pub mod changed;
+pub mod clean;
 pub mod descriptions;
 pub mod large;
 pub mod marks;

@@ -1,11 +1,12 @@
 //! Runs that break a rule at a report, a pass, a page or a block.
 
-ghost use Rattle.std.specs.Prelude.{◌≡◌, ◌++◌, ◌∷◌, [], Some, None};
+ghost use Rattle.std.specs.Prelude.{◌≡◌, ◌++◌, ◌∷◌, [], Some, None, take};
 ghost use Rattle.vfm_types.specs.declared.entry.Entry.TheVariants.{Arc, Report, Pass, Copy, Block, Dry, Begin, Joint, Abort};
 ghost use Rattle.vfm_types.specs.declared.entry.Rule.TheVariants.{Pages, Blocks, Decide, Order};
 ghost use Rattle.vfm_types.specs.declared.state.MigState.TheVariants.{PreCopy};
 ghost use Rattle.vfm_plain.specs.Legal.{broken};
 ghost use Rattle.vfm_cases.specs.One.{one, one_write, one_source, one_early};
+ghost use Rattle.vfm_cases.specs.Lone.{lone, lone_source};
 ghost use Rattle.vfm_cases.specs.Peers.{peers, peers_stopped, peers_source};
 ghost use Rattle.vfm_cases.specs.Rounds.{rounds_two, rounds_second};
 ghost use Rattle.vfm_cases.specs.Early.{early, early_first, early_ended, early_decided};
@@ -59,10 +60,11 @@ pub fn wrong_copy_is_refused()
     ensures twice { broken (one_early 1) (Begin ∷ Pass 1 ∷ Copy 0 ∷ Copy 0 ∷ []) ≡ Some (3, Pages) }
 {}
 
-/// The second pass is over the written page alone.
+/// A later pass is over the pages that were written alone, the last one too.
 pub fn copy_out_of_the_set_is_refused()
     ensures outside { broken early (early_ended ++ Report 0 ∷ Report 1 ∷ Pass 2 ∷ Copy 0 ∷ []) ≡ Some (10, Pages) }
     ensures inside { broken rounds_two (rounds_second ++ Copy 0 ∷ []) ≡ None }
+    ensures last { broken lone (take 12 lone_source ++ Copy 0 ∷ []) ≡ Some (12, Pages) }
 {}
 
 /// A block while the move isn't on, before any pass, or before the pages of the pass are copied.

@@ -1,7 +1,7 @@
 //! Runs that break a rule at a request: each of the three entries of a request, each rule that it may break.
 
 ghost use Rattle.std.specs.Prelude.{◌≡◌, ◌++◌, ◌∷◌, [], Some, None};
-ghost use Rattle.vfm_types.specs.declared.entry.Entry.TheVariants.{Issue, Deliver, Complete, Hold, Arc, Begin, Abort};
+ghost use Rattle.vfm_types.specs.declared.entry.Entry.TheVariants.{Issue, Deliver, Complete, Hold, Arc, Begin, Abort, Resume};
 ghost use Rattle.vfm_types.specs.declared.entry.Rule.TheVariants.{Turn, Barred, Start};
 ghost use Rattle.vfm_types.specs.declared.state.MigState.TheVariants.{Stop, Running, RunningP2p};
 ghost use Rattle.vfm_plain.specs.Legal.{broken};
@@ -56,6 +56,13 @@ pub fn wrong_delivery_is_refused()
     ensures other { broken peers (Begin ∷ Issue 0 0 ∷ Deliver 1 0 ∷ []) ≡ Some (2, Turn) }
     ensures completed { broken one (one_source ++ Deliver 0 0 ∷ []) ≡ Some (12, Turn) }
 {}
+
+/// What the source delivered isn't done once more by the destination.
+pub fn second_doing_is_refused()
+    ensures issued { broken one (one_source ++ Resume ∷ Issue 0 0 ∷ []) ≡ Some (13, Turn) }
+    ensures delivered { broken one (one_source ++ Resume ∷ Deliver 0 0 ∷ []) ≡ Some (13, Turn) }
+{
+}
 
 /// A completion of what isn't outstanding, isn't delivered, or was completed.
 pub fn wrong_completion_is_refused()
