@@ -20,23 +20,24 @@ use Rattle.vfm_types.specs.Valid.{IsValid, IsSoundJob, is_job_in_range}
 use Rattle.vfm_plain.specs.Shape.{DeviceHasShape, HasShape, LiesIn, Lies}
 use Rattle.vfm_plain.proofs.Sound.{both, sound_job, job_in_range, lies_of_job, some_bytes}
 
--- what each of n devices keeps, where one changes and keeps it
-pub each_changed : (P : ℕ → DeviceState → Type 0) (m : Machine) (d : ℕ) (dev : DeviceState) (n : ℕ) → (P d (device_of m d) → P d dev) → ((e : ℕ) → e < n → P e (device_of m e)) → (e : ℕ) → e < n → P e (device_of (with_device m d dev) e)
-each_changed P m d dev n keeps each e h = ⊎_elim same other (cases_eq e d)
+-- what each of n devices has after one changed, if each had what it says before
+pub each_changed : (P Q : ℕ → DeviceState → Type 0) (m : Machine) (d : ℕ) (dev : DeviceState) (n : ℕ) → ((e : ℕ) (x : DeviceState) → P e x → Q e x) → (P d (device_of m d) → Q d dev) → ((e : ℕ) → e < n → P e (device_of m e)) → (e : ℕ) → e < n → Q e (device_of (with_device m d dev) e)
+each_changed P Q m d dev n weaker changes each e h = ⊎_elim same other (cases_eq e d)
   where
-    past : e ≡ d → (d < length m.devices) ⊎ (length m.devices ≤ d) → P e (device_of (with_device m d dev) e)
+    past : e ≡ d → (d < length m.devices) ⊎ (length m.devices ≤ d) → Q e (device_of (with_device m d dev) e)
     past is (inl within) =
-        let kept : P d dev = keeps (subst (λ (k : ℕ). P k (device_of m k)) is (each e h)) in
-        let here : P d (device_of (with_device m d dev) d) = subst (P d) (sym (get_or-set_same m.devices d dev no_device within)) kept in
-        subst (λ (k : ℕ). P k (device_of (with_device m d dev) k)) (sym is) here
+        let changed : Q d dev = changes (subst (λ (k : ℕ). P k (device_of m k)) is (each e h)) in
+        let here : Q d (device_of (with_device m d dev) d) = subst (Q d) (sym (get_or-set_same m.devices d dev no_device within)) changed in
+        subst (λ (k : ℕ). Q k (device_of (with_device m d dev) k)) (sym is) here
     past is (inr out) =
-        subst (λ (xs : List DeviceState). P e (slice_index_or xs e no_device)) (sym (set_past m.devices d dev out)) (each e h)
+        subst (λ (xs : List DeviceState). Q e (slice_index_or xs e no_device)) (sym (set_past m.devices d dev out)) (weaker e (device_of m e) (each e h))
 
-    same : e ≡ d → P e (device_of (with_device m d dev) e)
+    same : e ≡ d → Q e (device_of (with_device m d dev) e)
     same is = past is (cases_lt d (length m.devices))
 
-    other : (e ≡ d → ⊥) → P e (device_of (with_device m d dev) e)
-    other not = subst (P e) (sym (get_or-set_other m.devices d e dev no_device not)) (each e h)
+    other : (e ≡ d → ⊥) → Q e (device_of (with_device m d dev) e)
+    other not =
+        subst (Q e) (sym (get_or-set_other m.devices d e dev no_device not)) (weaker e (device_of m e) (each e h))
 
 -- ---- the shape
 
@@ -51,7 +52,7 @@ shape-with_device D m d dev keeps shape =
       pages = shape.pages;
       page = shape.page;
       devices = length-set m.devices d dev ∙ shape.devices;
-      device = each_changed (λ e x. DeviceHasShape (shape_at D e) x) m d dev (device_count D) keeps shape.device;
+      device = each_changed (λ e x. DeviceHasShape (shape_at D e) x) (λ e x. DeviceHasShape (shape_at D e) x) m d dev (device_count D) (λ e x h. h) keeps shape.device;
     }
 
 -- a region's bytes reach at least as far as what lies in it

@@ -1,5 +1,6 @@
 -- The sizes that a machine keeps from its description, and the counts that it keeps.
-use Rattle.std.specs.Prelude.{◌≡◌, ℕ, ◌+◌, ◌<◌, ◌≤◌, [], length, slice_index_or, All}
+use Rattle.std.specs.Prelude.{◌≡◌, ℕ, ◌+◌, ◌<◌, ◌≤◌, [], length, replicate, take, slice_index_or, All}
+use Rattle.std.specs.List.{sum_by}
 use Rattle.vfm_types.specs.declared.job.Region.{Region}
 use Rattle.vfm_types.specs.declared.job.Region.TheVariants.{Page, Bar}
 use Rattle.vfm_types.specs.declared.job.Place.{Place}
@@ -38,3 +39,27 @@ Lies D place len = LiesIn D place.region place.offset len
 abbrev pub HasRegion : Machine → Region → Type 0
 HasRegion m (Page p) = p < length m.pages
 HasRegion m (Bar d) = d < length m.devices
+
+-- a device has accepted what it did and what is pending, and no more than its budget
+pub record DeviceHasCounts (shape : DevShape) (dev : DeviceState) : Type 0 where
+  pub accepted : dev.accepted ≡ dev.done + length dev.pending
+  pub within : dev.accepted ≤ shape.budget
+
+-- each device has such counts
+abbrev pub HasCounts : Desc → Machine → Type 0
+HasCounts D m = (d : ℕ) → d < device_count D → DeviceHasCounts (shape_at D d) (device_of m d)
+
+-- how many requests all devices together did
+abbrev pub all_done : Machine → ℕ
+all_done m = sum_by (λ dev. dev.done) m.devices
+
+-- bytes 0 to 7 of each BAR are zero
+abbrev pub HasZeroBells : Desc → Machine → Type 0
+HasZeroBells D m = (d : ℕ) → d < device_count D → take 8 (device_of m d).bar ≡ replicate 8 0
+
+-- what holds of the described machine and of each that comes of it
+pub record IsSound (D : Desc) (m : Machine) : Type 0 where
+  pub shape : HasShape D m
+  pub counts : HasCounts D m
+  pub losses : (d : ℕ) → d < device_count D → (device_of m d).lost ≤ all_done m
+  pub bells : HasZeroBells D m
