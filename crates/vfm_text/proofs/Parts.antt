@@ -91,7 +91,7 @@ numbered-parts f n (x ∷ xs) (suc i) d h =
     let next : (n + 1) + suc i ≡ n + suc (suc i) = omega arith in
     let rest : List ℕ = numbered_text f (n + suc (suc i)) (drop (suc i) xs) in
     ap (λ t. f n x ++ t) (numbered-parts f (n + 1) xs i d below
-        ∙ (ap (λ k. (numbered_text f (n + 1) (take i xs) ++ f k (get_or xs i d)) ++ numbered_text f ((n + 1) + suc i) (drop (suc i) xs)) same
-        ∙ ap (λ k. (numbered_text f (n + 1) (take i xs) ++ f (n + suc i) (get_or xs i d)) ++ numbered_text f k (drop (suc i) xs)) next))
+    ∙ (ap (λ k. (numbered_text f (n + 1) (take i xs) ++ f k (get_or xs i d)) ++ numbered_text f ((n + 1) + suc i) (drop (suc i) xs)) same
+    ∙ ap (λ k. (numbered_text f (n + 1) (take i xs) ++ f (n + suc i) (get_or xs i d)) ++ numbered_text f k (drop (suc i) xs)) next))
     ∙ (sym (append_assoc (f n x) (numbered_text f (n + 1) (take i xs) ++ f (n + suc i) (get_or xs i d)) rest)
     ∙ ap (λ t. t ++ rest) (sym (append_assoc (f n x) (numbered_text f (n + 1) (take i xs)) (f (n + suc i) (get_or xs i d)))))

@@ -45,7 +45,10 @@ fn put_device<P: Pen>(pen: &mut P, word: &[u8], d: DeviceId, number: u32) -> Res
     put_line(
         pen,
         word,
-        &[device.format(d.0).as_bytes(), digits.format(number).as_bytes()],
+        &[
+            device.format(d.0).as_bytes(),
+            digits.format(number).as_bytes(),
+        ],
     )
 }
 
@@ -54,11 +57,7 @@ fn put_to<P: Pen>(pen: &mut P, word: &[u8], d: DeviceId, to: MigState) -> Result
     ensures { Writes P.takes P.stops pen.old pen.new (line word.now (decimal d ∷ state_name to ∷ [])) result }
 {
     let mut device = Buffer::new();
-    put_line(
-        pen,
-        word,
-        &[device.format(d.0).as_bytes(), state_name(to)],
-    )
+    put_line(pen, word, &[device.format(d.0).as_bytes(), state_name(to)])
 }
 
 /// Writes the line of an entry.

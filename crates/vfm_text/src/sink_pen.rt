@@ -1,8 +1,7 @@
 //! A pen that writes to a sink.
 
-ghost use Rattle.std.specs.Prelude.{◌≡◌, ℕ, List, [], ◌++◌, OnOk, OnErr, MatchResult};
-ghost use Rattle.vfm_outside.specs.Told.{told_then};
-ghost use Rattle.vfm_text.specs.Gathered.{Gathers, Spills};
+ghost use Rattle.std.specs.Prelude.{◌≡◌, ℕ, List, [], ◌++◌};
+ghost use Rattle.vfm_text.specs.Prints.{Prints};
 
 use crate::Pen;
 use crate::gather::{Gather, ROOM};
@@ -11,8 +10,8 @@ use vfm_outside::{Failed, Sink, write_all};
 /// Gathers a text, and gives it to a sink in pieces of kilobytes.
 #[derive(Drop)]
 pub struct SinkPen<'s, S: Sink> {
-    gather: Gather,
-    sink: &'s mut S,
+    pub gather: Gather,
+    pub sink: &'s mut S,
 }
 
 impl<S: Sink> Pen for SinkPen<'_, S> {
@@ -44,5 +43,16 @@ impl<S: Sink> Pen for SinkPen<'_, S> {
         }
         self.gather.add(bytes);
         Ok(())
+    }
+}
+
+impl<S: Sink> SinkPen<'_, S> {
+    /// Gives the sink what is gathered.
+    pub fn flush(&mut self) -> Result<(), Failed>
+        ensures same { self.new.sink.ghost_name ≡ self.old.sink.ghost_name }
+        ensures printed { Prints result self.old.gather (S.holds self.old.sink.now) (S.faults self.old.sink.now)
+            (S.holds self.new.sink.now) (S.faults self.new.sink.now) }
+    {
+        self.gather.flush(&mut *self.sink)
     }
 }

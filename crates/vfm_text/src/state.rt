@@ -29,12 +29,7 @@ fn put_pages<P: Pen>(pen: &mut P, plain: &Plain, desc: &Desc) -> Result<(), Fail
 }
 
 /// Writes the line of a device with its name and its counts.
-fn put_counts<P: Pen>(
-    pen: &mut P,
-    plain: &Plain,
-    desc: &Desc,
-    d: DeviceId,
-) -> Result<(), Failed>
+fn put_counts<P: Pen>(pen: &mut P, plain: &Plain, desc: &Desc, d: DeviceId) -> Result<(), Failed>
     requires shape { HasShape desc.now plain.now }
     requires device { d < device_count desc.now }
     ensures { Writes P.takes P.stops pen.old pen.new (counts_line d (shape_at desc.now d).name (device_of plain.now d)) result }
@@ -106,12 +101,7 @@ fn put_pending<P: Pen>(pen: &mut P, d: DeviceId, pending: &[(u32, u32)]) -> Resu
 }
 
 /// Writes the lines of a device.
-fn put_device<P: Pen>(
-    pen: &mut P,
-    plain: &Plain,
-    desc: &Desc,
-    d: DeviceId,
-) -> Result<(), Failed>
+fn put_device<P: Pen>(pen: &mut P, plain: &Plain, desc: &Desc, d: DeviceId) -> Result<(), Failed>
     requires shape { HasShape desc.now plain.now }
     requires device { d < device_count desc.now }
     ensures { Writes P.takes P.stops pen.old pen.new (described_text desc.now d (device_of plain.now d)) result }

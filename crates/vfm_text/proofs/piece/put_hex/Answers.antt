@@ -12,12 +12,13 @@ returns-in_err-put_group g c =
     let p = err_from_is_err_and c.from_residual.result c.from_residual.ensures.1 in
     let pen = g.met.P.Pen in
     rw (p.1, hex-parts c.args.bytes.now c.loop-at.at ((c.loop-at.at + c.min-n.result) - c.loop-at.at)) (
-      pen.stop_before _ _ _ _ (pen.stop_after _ _ _ _ _ c.loop-at.invariant.1 c.in_err-put_group.ensures)
+    pen.stop_before _ _ _ _ (pen.stop_after _ _ _ _ _ c.loop-at.invariant.1 c.in_err-put_group.ensures)
     )
 
 pub loop-at-preserved : goal.loop-at-preserved
-loop-at-preserved g c =
-    (omega arith,
-    rw (hex-more c.args.bytes.now c.loop-at.at c.min-n.result ((c.loop-at.at + c.min-n.result) - c.loop-at.at) (omega arith)) (
+loop-at-preserved g c = (
+  omega arith,
+  rw (hex-more c.args.bytes.now c.loop-at.at c.min-n.result ((c.loop-at.at + c.min-n.result) - c.loop-at.at) (omega arith)) (
       g.met.P.Pen.more _ _ _ _ _ c.loop-at.invariant.1 c.in_ok-put_group.ensures
-    ))
+      ),
+)

@@ -9,5 +9,5 @@ returns-in_err-put_all g c =
     let p = err_from_is_err_and c.from_residual-in_err-put_all.result c.from_residual-in_err-put_all.ensures.1 in
     let pen = g.met.P.Pen in
     rw (p.1, line-parts (λ word. word.now) c.args.first.now c.args.words.now c.loop-word.word-index (record { ref_ptr = (0, 0); now = [] }) (omega arith)) (
-      pen.stop_before _ _ _ _ (pen.stop_after _ _ _ _ _ c.loop-word.invariant c.in_err-put_all.ensures)
+    pen.stop_before _ _ _ _ (pen.stop_after _ _ _ _ _ c.loop-word.invariant c.in_err-put_all.ensures)
     )

@@ -1,5 +1,5 @@
 -- The lines of a device, one after another.
-use Rattle.std.proofs.Common.{◌++◌, List, ℕ}
+use Rattle.std.proofs.Common.{◌++◌}
 use Rattle.std.specs.List.{flat_map}
 use Rattle.std.proofs.lemmas.Result.{err_from_is_err_and, MatchResult-weaker}
 use Rattle.vfm_types.specs.Desc.{shape_at}
@@ -46,7 +46,7 @@ returns g c =
     let bar = bar_line c.args.d device in
     let before = pen.more _ _ _ (counts ++ buf) bar (pen.more _ _ _ counts buf c.in_ok-put_counts.ensures c.in_ok-put_buf.ensures) c.in_ok-put_bar.ensures in
     rw (← c.pending.ensures) (
-      MatchResult-weaker c.put_pending.result c.put_pending.ensures
-        (λ _ h. pen.more _ _ _ (counts ++ buf ++ bar) (flat_map (pending_line c.args.d) c.pending.result.now) before h)
-        (λ _ h. pen.stop_after _ _ _ (counts ++ buf ++ bar) (flat_map (pending_line c.args.d) c.pending.result.now) before h)
+    MatchResult-weaker c.put_pending.result c.put_pending.ensures
+    (λ _ h. pen.more _ _ _ (counts ++ buf ++ bar) (flat_map (pending_line c.args.d) c.pending.result.now) before h)
+    (λ _ h. pen.stop_after _ _ _ (counts ++ buf ++ bar) (flat_map (pending_line c.args.d) c.pending.result.now) before h)
     )

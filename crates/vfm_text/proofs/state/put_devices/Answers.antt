@@ -11,11 +11,11 @@ returns-in_err-put_device g c =
     let p = err_from_is_err_and c.from_residual.result c.from_residual.ensures.1 in
     let pen = g.met.P.Pen in
     rw (p.1, numbered-parts (described_text c.args.desc.now) 0 c.args.plain.now.devices c.loop-d.d no_device (omega arith), zero-add) (
-      pen.stop_before _ _ _ _ (pen.stop_after _ _ _ _ _ c.loop-d.invariant c.in_err-put_device.ensures)
+    pen.stop_before _ _ _ _ (pen.stop_after _ _ _ _ _ c.loop-d.invariant c.in_err-put_device.ensures)
     )
 
 pub loop-d-preserved : goal.loop-d-preserved
 loop-d-preserved g c =
     rw (add-one, numbered-more (described_text c.args.desc.now) 0 c.args.plain.now.devices c.loop-d.d no_device (omega arith), zero-add) (
-      g.met.P.Pen.more _ _ _ _ _ c.loop-d.invariant c.in_ok-put_device.ensures
+    g.met.P.Pen.more _ _ _ _ _ c.loop-d.invariant c.in_ok-put_device.ensures
     )

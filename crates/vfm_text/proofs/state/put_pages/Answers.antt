@@ -10,11 +10,11 @@ returns-in_err-put_hex_line g c =
     let p = err_from_is_err_and c.from_residual.result c.from_residual.ensures.1 in
     let pen = g.met.P.Pen in
     rw (p.1, numbered-parts page_line 0 c.args.plain.now.pages c.loop-p.p [] (omega arith), zero-add) (
-      pen.stop_before _ _ _ _ (pen.stop_after _ _ _ _ _ c.loop-p.invariant (rw c.page.ensures at c.in_err-put_hex_line.ensures))
+    pen.stop_before _ _ _ _ (pen.stop_after _ _ _ _ _ c.loop-p.invariant (rw c.page.ensures at c.in_err-put_hex_line.ensures))
     )
 
 pub loop-p-preserved : goal.loop-p-preserved
 loop-p-preserved g c =
     rw (add-one, numbered-more page_line 0 c.args.plain.now.pages c.loop-p.p [] (omega arith), zero-add) (
-      g.met.P.Pen.more _ _ _ _ _ c.loop-p.invariant (rw c.page.ensures at c.in_ok-put_hex_line.ensures)
+    g.met.P.Pen.more _ _ _ _ _ c.loop-p.invariant (rw c.page.ensures at c.in_ok-put_hex_line.ensures)
     )
