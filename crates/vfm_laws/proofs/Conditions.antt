@@ -1,6 +1,6 @@
 -- From an entry that breaks no rule to each of its conditions, by name.
-use Rattle.std.proofs.Common.{◌≡◌, ℕ, ◌+◌, ◌<◌, ◌==◌, Bool, true, false, not, ◌&&◌, ◌||◌, if◌then◌else◌, List, [], ◌∷◌, length, nat_lt, Option, Some, None, refl, ap, ◌∙◌, ltb-true, eqb-true, is_none, ◌⊎◌, inl, inr, ⊎_elim}
-use Rattle.std.proofs.lemmas.Bool.{and_parts, not-true, or_cases, false≢true, true≢false}
+use Rattle.std.proofs.Common.{◌≡◌, ℕ, ◌+◌, ◌<◌, ◌==◌, Bool, true, false, not, ◌&&◌, ◌||◌, if◌then◌else◌, List, [], ◌∷◌, length, nat_lt, Option, Some, None, refl, ap, ◌∙◌, ltb-true, eqb-true, is_none}
+use Rattle.std.proofs.lemmas.Bool.{and_parts, not-true, false≢true, true≢false}
 use Rattle.std.proofs.lemmas.List.{nil_from_length}
 use Rattle.vfm_types.specs.declared.state.MigState.{MigState}
 use Rattle.vfm_types.specs.declared.state.MigState.TheVariants.{Stop, Running, StopCopy, PreCopy}
@@ -124,54 +124,55 @@ held_state d to past held = go (hold_of d past) refl
     go None e = absurd (false≢true (rw e at held))
     go (Some state) e = e ∙ ap Some (same_is state to (rw e at held))
 
--- the ways of a device: home, to PRE_COPY, into the state that it is held for, or from STOP to STOP_COPY
-pub arc_way : (D : Desc) (past : List Entry) (d : ℕ) (to : MigState) → is_right_arc D d to past ≡ true
-    → ((same_state (state_of d past) Running ≡ false) × (to ≡ next_towards (state_of d past) Running (shape_at D d).flags))
-    ⊎ (((state_of d past ≡ Running) × (to ≡ PreCopy)) ⊎ ((hold_of d past ≡ Some to) ⊎ ((state_of d past ≡ Stop) × (to ≡ StopCopy))))
+-- The ways of a device: home to RUNNING once the move is over, to PRE_COPY before the first pass, into the state that
+-- it is held for, or from STOP to STOP_COPY.
+pub data ArcWay (D : Desc) (past : List Entry) (d : ℕ) (to : MigState) : Type 0 where
+  homeward : same_state (state_of d past) Running ≡ false → to ≡ next_towards (state_of d past) Running (shape_at D d).flags → ArcWay D past d to
+  early : state_of d past ≡ Running → to ≡ PreCopy → ArcWay D past d to
+  held : hold_of d past ≡ Some to → ArcWay D past d to
+  final : state_of d past ≡ Stop → to ≡ StopCopy → ArcWay D past d to
+
+early_way : (D : Desc) (past : List Entry) (d : ℕ) (to : MigState)
+    → (same_state (state_of d past) Running && same_state to PreCopy && has_pre_copy (shape_at D d).flags && nat_lt 0 D.rounds && pass_count past == 0) ≡ true
+    → ArcWay D past d to
+early_way D past d to test =
+    let from = state_of d past in
+    let has = has_pre_copy (shape_at D d).flags in
+    let four = (and_parts (same_state from Running && same_state to PreCopy && has && nat_lt 0 D.rounds) (pass_count past == 0) test).0 in
+    let three = (and_parts (same_state from Running && same_state to PreCopy && has) (nat_lt 0 D.rounds) four).0 in
+    let two = (and_parts (same_state from Running && same_state to PreCopy) has three).0 in
+    let one = and_parts (same_state from Running) (same_state to PreCopy) two in
+    early (same_is from Running one.0) (same_is to PreCopy one.1)
+
+final_way : (D : Desc) (past : List Entry) (d : ℕ) (to : MigState) → (same_state (state_of d past) Stop && same_state to StopCopy && is_decided D past) ≡ true
+    → ArcWay D past d to
+final_way D past d to test =
+    let from = state_of d past in
+    let two = (and_parts (same_state from Stop && same_state to StopCopy) (is_decided D past) test).0 in
+    let one = and_parts (same_state from Stop) (same_state to StopCopy) two in
+    final (same_is from Stop one.0) (same_is to StopCopy one.1)
+
+-- one of three tests
+one_of : {X : Type 0} (a b c : Bool) → (a || b || c) ≡ true → (a ≡ true → X) → (b ≡ true → X) → (c ≡ true → X) → X
+one_of true b c test first second third = first refl
+one_of false true c test first second third = second refl
+one_of false false c test first second third = third test
+
+open_way : (D : Desc) (past : List Entry) (d : ℕ) (to : MigState) → is_way_open D d to past ≡ true → ArcWay D past d to
+open_way D past d to test =
+    one_of (same_state (state_of d past) Running && same_state to PreCopy && has_pre_copy (shape_at D d).flags && nat_lt 0 D.rounds && pass_count past == 0)
+    (is_held_for d to past) (same_state (state_of d past) Stop && same_state to StopCopy && is_decided D past) test
+    (early_way D past d to) (λ h. held (held_state d to past h)) (final_way D past d to)
+
+pub arc_way : (D : Desc) (past : List Entry) (d : ℕ) (to : MigState) → is_right_arc D d to past ≡ true → ArcWay D past d to
 arc_way D past d to right =
     by_bool (is_aborted past || is_resumed past)
-    (λ b. (if b then goes_home D d to past else is_way_open D d to past && not (arc_count d past + 1 == (shape_at D d).fails)) ≡ true → Ways)
+    (λ b. (if b then goes_home D d to past else is_way_open D d to past && not (arc_count d past + 1 == (shape_at D d).fails)) ≡ true → ArcWay D past d to)
     (λ over h.
-    let parts = and_parts (not (same_state from Running)) (is_next_towards D d Running to past) h in
-    inl (not-true (same_state from Running) parts.0, same_is to (next_towards from Running (shape_at D d).flags) parts.1))
-    (λ on_ h. inr (open_ (and_parts (is_way_open D d to past) (not (arc_count d past + 1 == (shape_at D d).fails)) h).0))
+    let parts = and_parts (not (same_state (state_of d past) Running)) (is_next_towards D d Running to past) h in
+    homeward (not-true (same_state (state_of d past) Running) parts.0) (same_is to (next_towards (state_of d past) Running (shape_at D d).flags) parts.1))
+    (λ on_ h. open_way D past d to (and_parts (is_way_open D d to past) (not (arc_count d past + 1 == (shape_at D d).fails)) h).0)
     right
-  where
-    from : MigState
-    from = state_of d past
-
-    Others : Type 0
-    Others = ((from ≡ Running) × (to ≡ PreCopy)) ⊎ ((hold_of d past ≡ Some to) ⊎ ((from ≡ Stop) × (to ≡ StopCopy)))
-
-    Ways : Type 0
-    Ways = ((same_state from Running ≡ false) × (to ≡ next_towards from Running (shape_at D d).flags)) ⊎ Others
-
-    first : Bool
-    first = same_state from Running && same_state to PreCopy && has_pre_copy (shape_at D d).flags && nat_lt 0 D.rounds && pass_count past == 0
-
-    last : Bool
-    last = same_state from Stop && same_state to StopCopy && is_decided D past
-
-    at_first : first ≡ true → Others
-    at_first h =
-        let four = (and_parts (same_state from Running && same_state to PreCopy && has_pre_copy (shape_at D d).flags && nat_lt 0 D.rounds) (pass_count past == 0) h).0 in
-        let three = (and_parts (same_state from Running && same_state to PreCopy && has_pre_copy (shape_at D d).flags) (nat_lt 0 D.rounds) four).0 in
-        let two = (and_parts (same_state from Running && same_state to PreCopy) (has_pre_copy (shape_at D d).flags) three).0 in
-        let one = and_parts (same_state from Running) (same_state to PreCopy) two in
-        inl (same_is from Running one.0, same_is to PreCopy one.1)
-
-    at_last : last ≡ true → Others
-    at_last h =
-        let two = (and_parts (same_state from Stop && same_state to StopCopy) (is_decided D past) h).0 in
-        let one = and_parts (same_state from Stop) (same_state to StopCopy) two in
-        inr (inr (same_is from Stop one.0, same_is to StopCopy one.1))
-
-    open_ : is_way_open D d to past ≡ true → Others
-    open_ h =
-        ⊎_elim
-        (λ (g : (first || is_held_for d to past) ≡ true).
-        ⊎_elim at_first (λ (f : is_held_for d to past ≡ true). inr (inl (held_state d to past f))) (or_cases first (is_held_for d to past) g))
-        at_last (or_cases (first || is_held_for d to past) last h)
 
 pub joint_met : (D : Desc) (past : List Entry) → fault_of D past Joint ≡ None → (d : ℕ) → d < device_count D → state_of d past ≡ StopCopy
 joint_met D past unbroken d inside =

@@ -20,3 +20,4 @@ pub mod Ends
 pub mod KeptStates
 pub mod Cleanness
 pub mod StateLaws
+pub mod RunsValid
