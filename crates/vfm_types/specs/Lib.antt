@@ -2,6 +2,8 @@ pub mod State
 pub mod Paths
 pub mod Bytes
 pub mod PageSet
+pub mod Entry
+pub mod RuleNumber
 pub mod Desc
 pub mod Region
 pub mod Job

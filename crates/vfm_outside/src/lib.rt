@@ -1,0 +1,29 @@
+//! The outside of a migration: where bytes come from and go to, the links between the two ends, and the faults of
+//! all of these. Each is a trait whose contract says what a call moves and when it may fail.
+#![tactic(auto)]
+
+mod beat;
+mod failed;
+mod link;
+mod mem_sink;
+mod mem_source;
+mod script;
+mod script_link;
+mod script_wires;
+mod sink;
+mod source;
+mod wires;
+
+pub use beat::{Beat, NoBeat};
+pub use failed::{Failed, ReadFault};
+pub use link::Link;
+pub use mem_sink::MemSink;
+pub use mem_source::MemSource;
+pub use script_link::ScriptLink;
+pub use script_wires::ScriptWires;
+pub use sink::{Sink, write_all};
+pub use source::{Source, read_up_to};
+pub use wires::{ConnectFault, Ends, Wires};
+
+#[cfg(test)]
+mod tests;
