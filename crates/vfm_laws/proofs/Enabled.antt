@@ -15,6 +15,8 @@ use Rattle.vfm_types.specs.Outstanding.{Outstanding, outstanding_of, is_undelive
 use Rattle.vfm_types.specs.Words.{has_fence}
 use Rattle.vfm_types.specs.Valid.{IsValid}
 use Rattle.vfm_plain.specs.Legal.{IsLegal}
+use Rattle.vfm_plain.specs.Shape.{IsSound}
+use Rattle.vfm_plain.proofs.Effects.{sound_plain}
 use Rattle.vfm_laws.specs.Queues.{waiting, is_listed, QueueKept}
 use Rattle.vfm_laws.proofs.Rising.{by_bool}
 use Rattle.vfm_laws.proofs.Waiting.{undelivered_listed, waiting_length, waiting_test}
@@ -111,3 +113,6 @@ plain_exists D valid (Deliver d n ∷ past) legal =
     ap (plain D) (delivers_more past (Deliver d n))
     ∙ more_plain D (described D) (machine_of D past) (delivers (reverse past)) d n (plain_exists D valid past legal.2) (deliver_enabled D valid past d n legal)
 plain_exists D valid (entry ∷ past) legal = ap (plain D) (delivers_same past entry refl) ∙ plain_exists D valid past legal.2
+
+pub machine_sound : (D : Desc) → IsValid D → (past : List Entry) → IsLegal D past → IsSound D (machine_of D past)
+machine_sound D valid past legal = sound_plain D (delivers (reverse past)) (machine_of D past) valid (plain_exists D valid past legal)
