@@ -22,20 +22,24 @@ use Rattle.vfm_types.specs.Words.{has_barred}
 use Rattle.vfm_laws.specs.Standing.{is_hold_step, is_arc_step, is_tame, StateKept, EachStands, TameTogether, JointStands, KeepsStates}
 use Rattle.vfm_laws.proofs.Below.{all_below_at}
 use Rattle.vfm_laws.proofs.Flags.{several_p2p}
-use Rattle.vfm_laws.proofs.Conditions.{QuietFor, ArcWay, homeward, early, held, final, arc_met, arc_way, no_move}
+use Rattle.vfm_laws.proofs.Conditions.{QuietFor, OpenWay, early, held, final, ArcWay, homeward, outward, arc_met, arc_way, no_move}
 use Rattle.vfm_laws.proofs.Steps.{home_step, home_from_stop, hold_arc, arc_known, StopCause, halts, was_stopped, stop_cause, SlowCause, was_slow, enters, slow_halts, slow_cause, TameCause, stays, leaves, leaps, tame_cause}
 
 none_some : (to : MigState) → None ≡ Some to → ⊥
 none_some to same = cc
 
 -- an arc that breaks no rule is one of the arcs of a move
+open_step : (D : Desc) (past : List Entry) (e : ℕ) (to : MigState) → StateKept D e (state_of e past) (hold_of e past) (outstanding_of D e past)
+    → OpenWay past e to → is_arc_step (state_of e past) to ≡ true
+open_step D past e to old (early running pre) = ap₂ is_arc_step running pre
+open_step D past e to old (held hold) = hold_arc (state_of e past) to (old.held to hold)
+open_step D past e to old (final stopped last) = ap₂ is_arc_step stopped last
+
 way_step : (D : Desc) (past : List Entry) (e : ℕ) (to : MigState) → StateKept D e (state_of e past) (hold_of e past) (outstanding_of D e past)
     → ArcWay D past e to → is_arc_step (state_of e past) to ≡ true
-way_step D past e to old (homeward away next) =
+way_step D past e to old (homeward over away next) =
     ap (is_arc_step (state_of e past)) next ∙ home_step (state_of e past) (shape_at D e).flags away old.known
-way_step D past e to old (early running pre) = ap₂ is_arc_step running pre
-way_step D past e to old (held hold) = hold_arc (state_of e past) to (old.held to hold)
-way_step D past e to old (final stopped last) = ap₂ is_arc_step stopped last
+way_step D past e to old (outward before way) = open_step D past e to old way
 
 running_p2p : Running ≡ RunningP2p → ⊥
 running_p2p same = cc
@@ -46,17 +50,23 @@ running_pre same = cc
 running_stop : Running ≡ StopCopy → ⊥
 running_stop same = cc
 
+-- no open way leads from STOP to RUNNING
+open_no_leap : (D : Desc) (past : List Entry) (e : ℕ) (to : MigState)
+    → StateKept D e (state_of e past) (hold_of e past) (outstanding_of D e past) → OpenWay past e to
+    → state_of e past ≡ Stop → to ≡ Running → ⊥
+open_no_leap D past e to old (early running pre) from_stop to_running = running_pre (sym to_running ∙ pre)
+open_no_leap D past e to old (held hold) from_stop to_running =
+    false≢true (ap₂ is_hold_step (sym from_stop) (sym to_running) ∙ old.held to hold)
+open_no_leap D past e to old (final stopped last) from_stop to_running = running_stop (sym to_running ∙ last)
+
 -- a device that has the peer-to-peer states never goes from STOP straight to RUNNING
 no_leap : (D : Desc) (past : List Entry) (e : ℕ) (to : MigState) → has_p2p (shape_at D e).flags ≡ true
     → StateKept D e (state_of e past) (hold_of e past) (outstanding_of D e past) → ArcWay D past e to
     → state_of e past ≡ Stop → to ≡ Running → ⊥
-no_leap D past e to has old (homeward away next) from_stop to_running =
+no_leap D past e to has old (homeward over away next) from_stop to_running =
     running_p2p (sym to_running ∙ next ∙ ap (λ (s : MigState). next_towards s Running (shape_at D e).flags) from_stop
     ∙ home_from_stop (shape_at D e).flags has)
-no_leap D past e to has old (early running pre) from_stop to_running = running_pre (sym to_running ∙ pre)
-no_leap D past e to has old (held hold) from_stop to_running =
-    false≢true (ap₂ is_hold_step (sym from_stop) (sym to_running) ∙ old.held to hold)
-no_leap D past e to has old (final stopped last) from_stop to_running = running_stop (sym to_running ∙ last)
+no_leap D past e to has old (outward before way) from_stop to_running = open_no_leap D past e to old way from_stop to_running
 
 -- a device of several has the peer-to-peer states
 beside_p2p : (D : Desc) → IsValid D → (e k : ℕ) → e < device_count D → k < device_count D → (e ≡ k → ⊥) → has_p2p (shape_at D e).flags ≡ true

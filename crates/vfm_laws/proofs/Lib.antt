@@ -21,3 +21,5 @@ pub mod KeptStates
 pub mod Cleanness
 pub mod StateLaws
 pub mod RunsValid
+pub mod Counts
+pub mod FewArcs

@@ -2,6 +2,7 @@
 //! definitions are those of `vfm_types` and `vfm_plain`.
 #![tactic(auto)]
 
+mod bounds;
 mod clean;
 mod ended;
 mod machine;
@@ -10,6 +11,7 @@ mod queue;
 mod states;
 mod unclean;
 
+pub use bounds::{arcs_are_few, issues_add_up, passes_are_few};
 pub use clean::{delivery_is_clean, legal_is_clean};
 pub use ended::ended_is_done;
 pub use machine::{delivery_is_enabled, machine_exists};
