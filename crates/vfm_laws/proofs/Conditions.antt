@@ -1,13 +1,13 @@
 -- From an entry that breaks no rule to each of its conditions, by name.
-use Rattle.std.proofs.Common.{◌≡◌, ℕ, ◌+◌, ◌<◌, ◌==◌, Bool, true, false, not, ◌&&◌, ◌||◌, if◌then◌else◌, List, [], ◌∷◌, length, nat_lt, Option, Some, None, refl, ap, ◌∙◌, ltb-true, eqb-true, is_none, ◌⊎◌, inl, inr, ⊎_elim}
-use Rattle.std.proofs.lemmas.Bool.{and_parts, not-true, or_cases, false≢true, true≢false}
+use Rattle.std.proofs.Common.{sym, nat_le, ◌≡◌, ℕ, ◌+◌, ◌<◌, ◌==◌, Bool, true, false, not, ◌&&◌, ◌||◌, if◌then◌else◌, List, [], ◌∷◌, length, nat_lt, Option, Some, None, refl, ap, ◌∙◌, ltb-true, eqb-true, is_none}
+use Rattle.std.proofs.lemmas.Bool.{and_parts, not-true, false≢true, true≢false}
 use Rattle.std.proofs.lemmas.List.{nil_from_length}
 use Rattle.vfm_types.specs.declared.state.MigState.{MigState}
 use Rattle.vfm_types.specs.declared.state.MigState.TheVariants.{Stop, Running, StopCopy, PreCopy}
 use Rattle.vfm_types.specs.declared.entry.Entry.{Entry}
-use Rattle.vfm_types.specs.declared.entry.Entry.TheVariants.{Issue, Deliver, Complete, Hold, Arc, Joint, Resume}
+use Rattle.vfm_types.specs.declared.entry.Entry.TheVariants.{Issue, Deliver, Complete, Hold, Arc, Fail, Pass, Joint, Abort, Resume}
 use Rattle.vfm_types.specs.declared.entry.Rule.{Rule}
-use Rattle.vfm_types.specs.declared.entry.Rule.TheVariants.{Turn, Path, Barred, Quiet, Start, Decide, Order, Joint as Standing}
+use Rattle.vfm_types.specs.declared.entry.Rule.TheVariants.{Turn, Path, Barred, Quiet, Start, Decide, Order, Pages, Joint as Standing}
 use Rattle.vfm_types.specs.declared.desc.Desc.{Desc}
 use Rattle.vfm_types.specs.State.{has_pre_copy}
 use Rattle.vfm_types.specs.Desc.{device_count, shape_at}
@@ -18,9 +18,11 @@ use Rattle.vfm_types.specs.Deliveries.{machine_of}
 use Rattle.vfm_types.specs.Phases.{is_begun, is_joint, is_aborted, is_resumed, is_failed, is_on, is_last_begun, pass_count}
 use Rattle.vfm_types.specs.Arcs.{state_of, hold_of, arc_count, is_stopped}
 use Rattle.vfm_types.specs.Outstanding.{Outstanding, outstanding_of, is_undelivered, is_arrived, unissued}
+use Rattle.vfm_types.specs.Least.{all_below}
+use Rattle.vfm_types.specs.Marks.{has_reported}
 use Rattle.vfm_types.specs.Blocks.{is_pass_ended}
 use Rattle.vfm_types.specs.Words.{is_nothing, has_fence, has_barred, is_quiet, none_stopped, all_stand_in, is_decided, is_next_towards, is_held_for, is_way_open}
-use Rattle.vfm_plain.specs.Rules.{Condition, first_broken, fault_of, is_the, first_number, has_turn, may_go, may_start, may_move, goes_home, is_right_arc, is_quiet_for, enters_p2p, stops, leaves_p2p}
+use Rattle.vfm_plain.specs.Rules.{Condition, first_broken, fault_of, is_the, first_number, has_turn, may_go, may_start, may_move, goes_home, is_right_arc, is_right_fail, is_quiet_for, is_next_pass, is_pass_wanted, enters_p2p, stops, leaves_p2p}
 use Rattle.vfm_laws.proofs.Walks.{some_none}
 use Rattle.vfm_laws.proofs.Rising.{by_bool}
 use Rattle.vfm_laws.proofs.Below.{all_below_at}
@@ -124,54 +126,61 @@ held_state d to past held = go (hold_of d past) refl
     go None e = absurd (false≢true (rw e at held))
     go (Some state) e = e ∙ ap Some (same_is state to (rw e at held))
 
--- the ways of a device: home, to PRE_COPY, into the state that it is held for, or from STOP to STOP_COPY
-pub arc_way : (D : Desc) (past : List Entry) (d : ℕ) (to : MigState) → is_right_arc D d to past ≡ true
-    → ((same_state (state_of d past) Running ≡ false) × (to ≡ next_towards (state_of d past) Running (shape_at D d).flags))
-    ⊎ (((state_of d past ≡ Running) × (to ≡ PreCopy)) ⊎ ((hold_of d past ≡ Some to) ⊎ ((state_of d past ≡ Stop) × (to ≡ StopCopy))))
+-- The ways of a device before it stops: to PRE_COPY before the first pass, into the state that it is held for, or from
+-- STOP to STOP_COPY.
+pub data OpenWay (past : List Entry) (d : ℕ) (to : MigState) : Type 0 where
+  early : state_of d past ≡ Running → to ≡ PreCopy → OpenWay past d to
+  held : hold_of d past ≡ Some to → OpenWay past d to
+  final : state_of d past ≡ Stop → to ≡ StopCopy → OpenWay past d to
+
+-- the ways of a device: home to RUNNING once the move was given up or taken over, and before that an open one
+pub data ArcWay (D : Desc) (past : List Entry) (d : ℕ) (to : MigState) : Type 0 where
+  homeward : (is_aborted past || is_resumed past) ≡ true → same_state (state_of d past) Running ≡ false
+      → to ≡ next_towards (state_of d past) Running (shape_at D d).flags → ArcWay D past d to
+  outward : (is_aborted past || is_resumed past) ≡ false → OpenWay past d to → ArcWay D past d to
+
+early_way : (D : Desc) (past : List Entry) (d : ℕ) (to : MigState)
+    → (same_state (state_of d past) Running && same_state to PreCopy && has_pre_copy (shape_at D d).flags && nat_lt 0 D.rounds && pass_count past == 0) ≡ true
+    → OpenWay past d to
+early_way D past d to test =
+    let from = state_of d past in
+    let has = has_pre_copy (shape_at D d).flags in
+    let four = (and_parts (same_state from Running && same_state to PreCopy && has && nat_lt 0 D.rounds) (pass_count past == 0) test).0 in
+    let three = (and_parts (same_state from Running && same_state to PreCopy && has) (nat_lt 0 D.rounds) four).0 in
+    let two = (and_parts (same_state from Running && same_state to PreCopy) has three).0 in
+    let one = and_parts (same_state from Running) (same_state to PreCopy) two in
+    early (same_is from Running one.0) (same_is to PreCopy one.1)
+
+final_way : (D : Desc) (past : List Entry) (d : ℕ) (to : MigState) → (same_state (state_of d past) Stop && same_state to StopCopy && is_decided D past) ≡ true
+    → OpenWay past d to
+final_way D past d to test =
+    let from = state_of d past in
+    let two = (and_parts (same_state from Stop && same_state to StopCopy) (is_decided D past) test).0 in
+    let one = and_parts (same_state from Stop) (same_state to StopCopy) two in
+    final (same_is from Stop one.0) (same_is to StopCopy one.1)
+
+-- one of three tests
+one_of : {X : Type 0} (a b c : Bool) → (a || b || c) ≡ true → (a ≡ true → X) → (b ≡ true → X) → (c ≡ true → X) → X
+one_of true b c test first second third = first refl
+one_of false true c test first second third = second refl
+one_of false false c test first second third = third test
+
+pub open_way : (D : Desc) (past : List Entry) (d : ℕ) (to : MigState) → is_way_open D d to past ≡ true → OpenWay past d to
+open_way D past d to test =
+    one_of (same_state (state_of d past) Running && same_state to PreCopy && has_pre_copy (shape_at D d).flags && nat_lt 0 D.rounds && pass_count past == 0)
+    (is_held_for d to past) (same_state (state_of d past) Stop && same_state to StopCopy && is_decided D past) test
+    (early_way D past d to) (λ h. held (held_state d to past h)) (final_way D past d to)
+
+pub arc_way : (D : Desc) (past : List Entry) (d : ℕ) (to : MigState) → is_right_arc D d to past ≡ true → ArcWay D past d to
 arc_way D past d to right =
     by_bool (is_aborted past || is_resumed past)
-    (λ b. (if b then goes_home D d to past else is_way_open D d to past && not (arc_count d past + 1 == (shape_at D d).fails)) ≡ true → Ways)
-    (λ over h.
-    let parts = and_parts (not (same_state from Running)) (is_next_towards D d Running to past) h in
-    inl (not-true (same_state from Running) parts.0, same_is to (next_towards from Running (shape_at D d).flags) parts.1))
-    (λ on_ h. inr (open_ (and_parts (is_way_open D d to past) (not (arc_count d past + 1 == (shape_at D d).fails)) h).0))
-    right
-  where
-    from : MigState
-    from = state_of d past
-
-    Others : Type 0
-    Others = ((from ≡ Running) × (to ≡ PreCopy)) ⊎ ((hold_of d past ≡ Some to) ⊎ ((from ≡ Stop) × (to ≡ StopCopy)))
-
-    Ways : Type 0
-    Ways = ((same_state from Running ≡ false) × (to ≡ next_towards from Running (shape_at D d).flags)) ⊎ Others
-
-    first : Bool
-    first = same_state from Running && same_state to PreCopy && has_pre_copy (shape_at D d).flags && nat_lt 0 D.rounds && pass_count past == 0
-
-    last : Bool
-    last = same_state from Stop && same_state to StopCopy && is_decided D past
-
-    at_first : first ≡ true → Others
-    at_first h =
-        let four = (and_parts (same_state from Running && same_state to PreCopy && has_pre_copy (shape_at D d).flags && nat_lt 0 D.rounds) (pass_count past == 0) h).0 in
-        let three = (and_parts (same_state from Running && same_state to PreCopy && has_pre_copy (shape_at D d).flags) (nat_lt 0 D.rounds) four).0 in
-        let two = (and_parts (same_state from Running && same_state to PreCopy) (has_pre_copy (shape_at D d).flags) three).0 in
-        let one = and_parts (same_state from Running) (same_state to PreCopy) two in
-        inl (same_is from Running one.0, same_is to PreCopy one.1)
-
-    at_last : last ≡ true → Others
-    at_last h =
-        let two = (and_parts (same_state from Stop && same_state to StopCopy) (is_decided D past) h).0 in
-        let one = and_parts (same_state from Stop) (same_state to StopCopy) two in
-        inr (inr (same_is from Stop one.0, same_is to StopCopy one.1))
-
-    open_ : is_way_open D d to past ≡ true → Others
-    open_ h =
-        ⊎_elim
-        (λ (g : (first || is_held_for d to past) ≡ true).
-        ⊎_elim at_first (λ (f : is_held_for d to past ≡ true). inr (inl (held_state d to past f))) (or_cases first (is_held_for d to past) g))
-        at_last (or_cases (first || is_held_for d to past) last h)
+    (λ b. (is_aborted past || is_resumed past) ≡ b
+    → (if b then goes_home D d to past else is_way_open D d to past && not (arc_count d past + 1 == (shape_at D d).fails)) ≡ true → ArcWay D past d to)
+    (λ over e h.
+    let parts = and_parts (not (same_state (state_of d past) Running)) (is_next_towards D d Running to past) h in
+    homeward e (not-true (same_state (state_of d past) Running) parts.0) (same_is to (next_towards (state_of d past) Running (shape_at D d).flags) parts.1))
+    (λ on_ e h. outward e (open_way D past d to (and_parts (is_way_open D d to past) (not (arc_count d past + 1 == (shape_at D d).fails)) h).0))
+    refl right
 
 pub joint_met : (D : Desc) (past : List Entry) → fault_of D past Joint ≡ None → (d : ℕ) → d < device_count D → state_of d past ≡ StopCopy
 joint_met D past unbroken d inside =
@@ -203,3 +212,46 @@ no_move on_ true true resumed moves j a r = true≢false a
 no_move on_ true false true moves j a r = true≢false r
 no_move true true false false moves j a r = false≢true moves
 no_move false true false false moves j a r = false≢true moves
+
+pub pass_met : (D : Desc) (past : List Entry) (k : ℕ) → fault_of D past (Pass k) ≡ None → (is_pass_ended D past ≡ true) × (is_pass_wanted D k past ≡ true)
+pass_met D past k unbroken =
+    let order = met (is_on past) Order ((is_next_pass D k past, Pages) ∷ (is_pass_wanted D k past, Decide) ∷ []) unbroken in
+    let next = met (is_next_pass D k past) Pages ((is_pass_wanted D k past, Decide) ∷ []) order.1 in
+    let wanted = met (is_pass_wanted D k past) Decide [] next.1 in
+    let reported = nat_le k 1 || all_below (device_count D) (λ d. has_reported d past) in
+    let two = (and_parts (k == pass_count past + 1 && is_pass_ended D past) reported next.0).0 in
+    ((and_parts (k == pass_count past + 1) (is_pass_ended D past) two).1, wanted.0)
+
+-- a fail comes before the move is given up or taken over
+pub fail_met : (D : Desc) (past : List Entry) (d : ℕ) (to : MigState) → fault_of D past (Fail d to) ≡ None
+    → (may_move past ≡ true) × (is_aborted past ≡ false) × (is_resumed past ≡ false)
+fail_met D past d to unbroken =
+    let order = met (may_move past) Order ((is_right_fail D d to past, Path) ∷ (is_quiet_for D d to past, Quiet) ∷ []) unbroken in
+    let right = met (is_right_fail D d to past) Path ((is_quiet_for D d to past, Quiet) ∷ []) order.1 in
+    let four = not (is_aborted past) && not (is_resumed past) && is_way_open D d to past && nat_lt 0 (shape_at D d).fails in
+    let three = (and_parts four (arc_count d past + 1 == (shape_at D d).fails) right.0).0 in
+    let two = (and_parts (not (is_aborted past) && not (is_resumed past) && is_way_open D d to past) (nat_lt 0 (shape_at D d).fails) three).0 in
+    let one = and_parts (not (is_aborted past)) (not (is_resumed past)) (and_parts (not (is_aborted past) && not (is_resumed past)) (is_way_open D d to past) two).0 in
+    (order.0, not-true (is_aborted past) one.0, not-true (is_resumed past) one.1)
+
+-- arcs before the move is given up or taken over are made while it is on, so none has failed
+pub moving_unfailed : (past : List Entry) → may_move past ≡ true → is_aborted past ≡ false → is_resumed past ≡ false → is_failed past ≡ false
+moving_unfailed past moves aborted resumed =
+    one_of (is_on past && not (is_joint past)) (is_aborted past) (is_resumed past) moves
+    (λ on_. not-true (is_failed past)
+    (and_parts (is_begun past && not (is_aborted past) && not (is_resumed past)) (not (is_failed past)) (and_parts (is_on past) (not (is_joint past)) on_).0).1)
+    (λ over. absurd (true≢false (sym over ∙ aborted))) (λ over. absurd (true≢false (sym over ∙ resumed)))
+
+-- a source that gives up hasn't before
+pub abort_met : (D : Desc) (past : List Entry) → fault_of D past Abort ≡ None → (is_aborted past ≡ false) × (is_resumed past ≡ false)
+abort_met D past unbroken =
+    let order = met (not (is_aborted past) && not (is_resumed past)) Order [] unbroken in
+    let parts = and_parts (not (is_aborted past)) (not (is_resumed past)) order.0 in
+    (not-true (is_aborted past) parts.0, not-true (is_resumed past) parts.1)
+
+-- a move that is on hasn't failed
+pub on_unfailed : (past : List Entry) → is_on past ≡ true → is_failed past ≡ false
+on_unfailed past on_ = not-true (is_failed past) (and_parts (is_begun past && not (is_aborted past) && not (is_resumed past)) (not (is_failed past)) on_).1
+
+pub resume_on : (D : Desc) (past : List Entry) → fault_of D past Resume ≡ None → is_on past ≡ true
+resume_on D past unbroken = (met (is_on past) Order ((is_joint past && is_last_begun past && is_pass_ended D past, Standing) ∷ []) unbroken).0

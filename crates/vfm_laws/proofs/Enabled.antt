@@ -1,5 +1,5 @@
 -- A request that waits for its delivery is enabled in the plain machine, so the plain machine of a legal list exists.
-use Rattle.std.proofs.Common.{◌≡◌, ℕ, zero, suc, ◌≤◌, ◌==◌, Bool, true, false, not, ◌||◌, if◌then◌else◌, List, [], ◌∷◌, ◌++◌, length, reverse, Some, None, refl, ap, sym, ◌∙◌, subst, arith, ltb-true}
+use Rattle.std.proofs.Common.{◌<◌, ◌≡◌, ℕ, zero, suc, ◌≤◌, ◌==◌, Bool, true, false, not, ◌||◌, if◌then◌else◌, List, [], ◌∷◌, ◌++◌, length, reverse, Some, None, refl, ap, sym, ◌∙◌, subst, arith, ltb-true}
 use Rattle.std.proofs.lemmas.Bool.{or_parts, or_right, not_from_false, false≢true, cond-true}
 use Rattle.std.proofs.lemmas.List.{append-nil}
 use Rattle.std.proofs.lemmas.Grind.{reverse_onto}
@@ -15,6 +15,8 @@ use Rattle.vfm_types.specs.Outstanding.{Outstanding, outstanding_of, is_undelive
 use Rattle.vfm_types.specs.Words.{has_fence}
 use Rattle.vfm_types.specs.Valid.{IsValid}
 use Rattle.vfm_plain.specs.Legal.{IsLegal}
+use Rattle.vfm_plain.specs.Shape.{IsSound}
+use Rattle.vfm_plain.proofs.Effects.{sound_plain}
 use Rattle.vfm_laws.specs.Queues.{waiting, is_listed, QueueKept}
 use Rattle.vfm_laws.proofs.Rising.{by_bool}
 use Rattle.vfm_laws.proofs.Waiting.{undelivered_listed, waiting_length, waiting_test}
@@ -65,10 +67,15 @@ queue_enabled D d n device requests kept undelivered =
     window : length requests ≤ (shape_at D d).window
     window = kept.window
 
+-- each undelivered request is enabled
+pub undelivered_enabled : (D : Desc) (past : List Entry) (d : ℕ) → IsValid D → IsLegal D past → d < device_count D
+    → (n : ℕ) → is_undelivered n (outstanding_of D d past) ≡ true → is_enabled D (machine_of D past) d n ≡ true
+undelivered_enabled D past d valid legal inside n undelivered =
+    queue_enabled D d n (device_of (machine_of D past) d) (outstanding_of D d past) ((keeps_queues D valid past legal).1 d inside) undelivered
+
 pub deliver_enabled : (D : Desc) → IsValid D → (past : List Entry) (d n : ℕ) → IsLegal D (Deliver d n ∷ past) → is_enabled D (machine_of D past) d n ≡ true
 deliver_enabled D valid past d n legal =
-    queue_enabled D d n (device_of (machine_of D past) d) (outstanding_of D d past)
-    ((keeps_queues D valid past legal.2).1 d (ltb-true d (device_count D) legal.0)) (deliver_met D past d n legal.1)
+    undelivered_enabled D past d valid legal.2 (ltb-true d (device_count D) legal.0) n (deliver_met D past d n legal.1)
 
 -- requests done in order, and then one more
 more_plain : (D : Desc) (m after : Machine) (requests : List (ℕ × ℕ)) (d n : ℕ) → plain_from D m requests ≡ Some after → is_enabled D after d n ≡ true
@@ -106,3 +113,6 @@ plain_exists D valid (Deliver d n ∷ past) legal =
     ap (plain D) (delivers_more past (Deliver d n))
     ∙ more_plain D (described D) (machine_of D past) (delivers (reverse past)) d n (plain_exists D valid past legal.2) (deliver_enabled D valid past d n legal)
 plain_exists D valid (entry ∷ past) legal = ap (plain D) (delivers_same past entry refl) ∙ plain_exists D valid past legal.2
+
+pub machine_sound : (D : Desc) → IsValid D → (past : List Entry) → IsLegal D past → IsSound D (machine_of D past)
+machine_sound D valid past legal = sound_plain D (delivers (reverse past)) (machine_of D past) valid (plain_exists D valid past legal)

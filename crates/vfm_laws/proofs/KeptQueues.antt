@@ -20,6 +20,7 @@ described_queue D valid d inside = record {
   pending = refl;
   rising = subst (λ (k : ℕ). IsRising 0 (numbered 0 (shape_at D d).queue) k) (omega arith) (rising_numbered 0 0 (shape_at D d).queue (omega arith));
   gone = tt;
+  once = tt;
   count = let same : length (numbered 0 (shape_at D d).queue) ≡ length (shape_at D d).queue = length_numbered 0 (shape_at D d).queue in omega arith;
   budget = (valid.in_range.devices d inside).queue_length;
   window = omega arith;

@@ -20,3 +20,6 @@ pub mod Ends
 pub mod KeptStates
 pub mod Cleanness
 pub mod StateLaws
+pub mod RunsValid
+pub mod Counts
+pub mod FewArcs

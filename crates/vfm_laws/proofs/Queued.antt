@@ -12,7 +12,7 @@ use Rattle.vfm_types.specs.Words.{has_fence, is_nothing}
 use Rattle.vfm_plain.specs.Rules.{is_the, first_number}
 use Rattle.vfm_laws.specs.Queues.{waiting, is_listed, IsRising, IsGone, IsGrown, QueueKept}
 use Rattle.vfm_laws.proofs.Rising.{rising_grown, rising_without, rising_listed, unlisted_self, unlisted_without, unlisted_grown, unlisted_front, listed_behind, listed_front, job_behind, without_front, length_without, length_numbered}
-use Rattle.vfm_laws.proofs.Waiting.{delivered_waiting, completed_waiting, issued_waiting, undelivered_listed, all_delivered_as, all_delivered_more, all_delivered_less, all_delivered_issued, not_outstanding, unissued_waiting, unissued_head, delivered_length, completed_length, delivered_test, completed_test}
+use Rattle.vfm_laws.proofs.Waiting.{once_issued, once_delivered, once_completed, delivered_waiting, completed_waiting, issued_waiting, undelivered_listed, all_delivered_as, all_delivered_more, all_delivered_less, all_delivered_issued, not_outstanding, unissued_waiting, unissued_head, delivered_length, completed_length, delivered_test, completed_test}
 use Rattle.vfm_laws.proofs.Conditions.{HasTurn}
 
 -- the request that device d puts on the bus
@@ -22,11 +22,11 @@ issued n device = record { number = n; job = job_number n device.pending; is_del
 -- What the turn of a request says of it: it is the first pending one behind those that wait.
 pub turn_head : (D : Desc) (d n : ℕ) (device : DeviceState) (requests : List Outstanding) → QueueKept D d device requests
     → HasTurn D d n device requests
-    → (rest : List (ℕ × ℕ)) × (device.pending ≡ waiting requests ++ (n, job_number n device.pending) ∷ rest)
+    → (rest : List (ℕ × ℕ)) × (device.pending ≡ waiting requests ++ (n, job_number n device.pending) ∷ rest) × (is_outstanding n requests ≡ false)
 turn_head D d n device requests kept turn = go kept.rest kept.pending
   where
     go : (rest : List (ℕ × ℕ)) → device.pending ≡ waiting requests ++ rest
-        → (rest : List (ℕ × ℕ)) × (device.pending ≡ waiting requests ++ (n, job_number n device.pending) ∷ rest)
+        → (rest : List (ℕ × ℕ)) × (device.pending ≡ waiting requests ++ (n, job_number n device.pending) ∷ rest) × (is_outstanding n requests ≡ false)
     go [] split =
         let none : unissued requests device.pending ≡ [] = ap (unissued requests) split ∙ unissued_waiting requests [] in
         absurd (false≢true (sym (ap (λ (xs : List (ℕ × ℕ)). is_the n (first_number xs)) none) ∙ turn.first))
@@ -39,7 +39,7 @@ turn_head D d n device requests kept turn = go kept.rest kept.pending
         let same : p.0 ≡ n = eqb-true p.0 n (sym (ap (λ (xs : List (ℕ × ℕ)). is_the n (first_number xs)) head) ∙ turn.first) in
         let job : job_number p.0 device.pending ≡ p.1 = ap (job_number p.0) split ∙ job_behind (waiting requests) p rest front in
         let whole : p ≡ (n, job_number n device.pending) = ap₂ (λ (a b : ℕ). (a, b)) same (sym job ∙ ap (λ (k : ℕ). job_number k device.pending) same) in
-        (rest, split ∙ ap (λ (q : ℕ × ℕ). waiting requests ++ q ∷ rest) whole)
+        (rest, split ∙ ap (λ (q : ℕ × ℕ). waiting requests ++ q ∷ rest) whole, subst (λ (k : ℕ). is_outstanding k requests ≡ false) same out)
 
 pub queue_issued : (D : Desc) (d n : ℕ) (device : DeviceState) (requests : List Outstanding) → QueueKept D d device requests
     → HasTurn D d n device requests → QueueKept D d device (requests ++ issued n device ∷ [])
@@ -55,6 +55,7 @@ queue_issued D d n device requests kept turn =
           ∙ ap (λ (xs : List (ℕ × ℕ)). xs ++ rest) (sym (issued_waiting (issued n device) requests refl));
       rising = kept.rising;
       gone = all_delivered_issued (IsGone device) (issued n device) requests refl kept.gone;
+      once = once_issued (issued n device) requests head.2 kept.once;
       count = kept.count;
       budget = kept.budget;
       window = omega arith;
@@ -88,6 +89,7 @@ queue_taken D d n device requests kept undelivered =
       gone = all_delivered_more (IsGone (taken device n)) n requests
           (rising_listed n 0 device.pending device.accepted kept.rising listed, unlisted_self n 0 device.pending device.accepted kept.rising)
           (all_delivered_as (IsGone device) (IsGone (taken device n)) requests (λ k gone. (gone.0, unlisted_without k n device.pending gone.1)) kept.gone);
+      once = once_delivered n requests kept.once;
       count = omega arith;
       budget = kept.budget;
       window = omega arith;
@@ -112,6 +114,7 @@ queue_grown D d before after requests kept grown =
       gone = all_delivered_as (IsGone before) (IsGone after) requests
           (λ k gone. let below : k < before.accepted = gone.0 in
           (omega arith, ap (is_listed k) grown.pending ∙ unlisted_grown k before.pending before.accepted grown.jobs gone.0 gone.1)) kept.gone;
+      once = kept.once;
       count = omega arith;
       budget = grown.budget kept.budget;
       window = kept.window;
@@ -128,6 +131,7 @@ queue_completed D d n device requests kept arrived =
       pending = kept.pending ∙ ap (λ (xs : List (ℕ × ℕ)). xs ++ kept.rest) (sym (completed_waiting n requests arrived));
       rising = kept.rising;
       gone = all_delivered_less (IsGone device) n requests kept.gone;
+      once = once_completed n requests kept.once;
       count = kept.count;
       budget = kept.budget;
       window = omega arith;

@@ -1,5 +1,5 @@
 -- The steps of paths, and what follows from a step for the groups of states at its two ends.
-use Rattle.std.proofs.Common.{◌≡◌, ℕ, Bool, true, false, ◌&&◌, if◌then◌else◌, Some, refl, ap, sym, ◌∙◌, eqb-true, ◌⊎◌, inl, inr}
+use Rattle.std.proofs.Common.{◌≡◌, ℕ, Bool, true, false, ◌&&◌, if◌then◌else◌, Some, refl, ap, sym, ◌∙◌, eqb-true}
 use Rattle.std.proofs.lemmas.Bool.{false≢true, true≢false}
 use Rattle.vfm_types.specs.declared.state.MigState.{MigState}
 use Rattle.vfm_types.specs.declared.state.MigState.TheVariants.{Error, Stop, Running, StopCopy, Resuming, RunningP2p, PreCopy, PreCopyP2p}
@@ -123,64 +123,76 @@ arc_known StopCopy Stop step = refl
 arc_known Resuming Stop step = refl
 arc_known _ _ step = absurd (false≢true step)
 
--- an arc to a stopped state stops the device, or finds it stopped
-pub stop_cause : (from to : MigState) → is_arc_step from to ≡ true → is_stopped to ≡ true → (stops from to ≡ true) ⊎ (is_stopped from ≡ true)
+-- why an arc leads to a stopped state: it stops the device, or finds it stopped
+pub data StopCause (from to : MigState) : Type 0 where
+  halts : stops from to ≡ true → StopCause from to
+  was_stopped : is_stopped from ≡ true → StopCause from to
+
+pub stop_cause : (from to : MigState) → is_arc_step from to ≡ true → is_stopped to ≡ true → StopCause from to
+stop_cause Running Stop step still = halts refl
+stop_cause PreCopy StopCopy step still = halts refl
+stop_cause RunningP2p Stop step still = halts refl
+stop_cause PreCopyP2p StopCopy step still = halts refl
+stop_cause Stop StopCopy step still = was_stopped refl
+stop_cause StopCopy Stop step still = was_stopped refl
+stop_cause Resuming Stop step still = was_stopped refl
 stop_cause Running PreCopy step still = absurd (false≢true still)
 stop_cause Running RunningP2p step still = absurd (false≢true still)
-stop_cause Running Stop step still = inl refl
 stop_cause PreCopy PreCopyP2p step still = absurd (false≢true still)
-stop_cause PreCopy StopCopy step still = inl refl
 stop_cause PreCopy Running step still = absurd (false≢true still)
-stop_cause RunningP2p Stop step still = inl refl
 stop_cause RunningP2p Running step still = absurd (false≢true still)
-stop_cause PreCopyP2p StopCopy step still = inl refl
 stop_cause PreCopyP2p RunningP2p step still = absurd (false≢true still)
 stop_cause PreCopyP2p Running step still = absurd (false≢true still)
-stop_cause Stop StopCopy step still = inr refl
 stop_cause Stop RunningP2p step still = absurd (false≢true still)
 stop_cause Stop Running step still = absurd (false≢true still)
-stop_cause StopCopy Stop step still = inr refl
-stop_cause Resuming Stop step still = inr refl
 stop_cause _ _ step still = absurd (false≢true step)
 
--- an arc to a state that isn't running comes from one that isn't, or enters a peer-to-peer state, or stops the device
-pub slow_cause : (from to : MigState) → is_arc_step from to ≡ true → is_running to ≡ false
-    → (is_running from ≡ false) ⊎ ((enters_p2p from to ≡ true) ⊎ (stops from to ≡ true))
+-- why an arc leads to a state that isn't running: it comes from one, or enters a peer-to-peer state, or stops the device
+pub data SlowCause (from to : MigState) : Type 0 where
+  was_slow : is_running from ≡ false → SlowCause from to
+  enters : enters_p2p from to ≡ true → SlowCause from to
+  slow_halts : stops from to ≡ true → SlowCause from to
+
+pub slow_cause : (from to : MigState) → is_arc_step from to ≡ true → is_running to ≡ false → SlowCause from to
+slow_cause Running RunningP2p step slow = enters refl
+slow_cause PreCopy PreCopyP2p step slow = enters refl
+slow_cause Running Stop step slow = slow_halts refl
+slow_cause PreCopy StopCopy step slow = slow_halts refl
+slow_cause RunningP2p Stop step slow = was_slow refl
+slow_cause PreCopyP2p StopCopy step slow = was_slow refl
+slow_cause PreCopyP2p RunningP2p step slow = was_slow refl
+slow_cause Stop StopCopy step slow = was_slow refl
+slow_cause Stop RunningP2p step slow = was_slow refl
+slow_cause StopCopy Stop step slow = was_slow refl
+slow_cause Resuming Stop step slow = was_slow refl
 slow_cause Running PreCopy step slow = absurd (true≢false slow)
-slow_cause Running RunningP2p step slow = inr (inl refl)
-slow_cause Running Stop step slow = inr (inr refl)
-slow_cause PreCopy PreCopyP2p step slow = inr (inl refl)
-slow_cause PreCopy StopCopy step slow = inr (inr refl)
 slow_cause PreCopy Running step slow = absurd (true≢false slow)
-slow_cause RunningP2p Stop step slow = inl refl
 slow_cause RunningP2p Running step slow = absurd (true≢false slow)
-slow_cause PreCopyP2p StopCopy step slow = inl refl
-slow_cause PreCopyP2p RunningP2p step slow = inl refl
 slow_cause PreCopyP2p Running step slow = absurd (true≢false slow)
-slow_cause Stop StopCopy step slow = inl refl
-slow_cause Stop RunningP2p step slow = inl refl
 slow_cause Stop Running step slow = absurd (true≢false slow)
-slow_cause StopCopy Stop step slow = inl refl
-slow_cause Resuming Stop step slow = inl refl
 slow_cause _ _ step slow = absurd (false≢true step)
 
--- an arc from a tame state leads to a tame one, or leaves the peer-to-peer states, or is that from STOP past them
-pub tame_cause : (from to : MigState) → is_arc_step from to ≡ true → is_tame from ≡ true
-    → (is_tame to ≡ true) ⊎ ((leaves_p2p from to ≡ true) ⊎ ((from ≡ Stop) × (to ≡ Running)))
+-- where an arc from a tame state leads: to a tame one, or out of the peer-to-peer states, or from STOP past them
+pub data TameCause (from to : MigState) : Type 0 where
+  stays : is_tame to ≡ true → TameCause from to
+  leaves : leaves_p2p from to ≡ true → TameCause from to
+  leaps : from ≡ Stop → to ≡ Running → TameCause from to
+
+pub tame_cause : (from to : MigState) → is_arc_step from to ≡ true → is_tame from ≡ true → TameCause from to
+tame_cause RunningP2p Running step tame = leaves refl
+tame_cause PreCopyP2p Running step tame = leaves refl
+tame_cause Stop Running step tame = leaps refl refl
+tame_cause RunningP2p Stop step tame = stays refl
+tame_cause PreCopyP2p StopCopy step tame = stays refl
+tame_cause PreCopyP2p RunningP2p step tame = stays refl
+tame_cause Stop StopCopy step tame = stays refl
+tame_cause Stop RunningP2p step tame = stays refl
+tame_cause StopCopy Stop step tame = stays refl
+tame_cause Resuming Stop step tame = stays refl
 tame_cause Running PreCopy step tame = absurd (false≢true tame)
 tame_cause Running RunningP2p step tame = absurd (false≢true tame)
 tame_cause Running Stop step tame = absurd (false≢true tame)
 tame_cause PreCopy PreCopyP2p step tame = absurd (false≢true tame)
 tame_cause PreCopy StopCopy step tame = absurd (false≢true tame)
 tame_cause PreCopy Running step tame = absurd (false≢true tame)
-tame_cause RunningP2p Stop step tame = inl refl
-tame_cause RunningP2p Running step tame = inr (inl refl)
-tame_cause PreCopyP2p StopCopy step tame = inl refl
-tame_cause PreCopyP2p RunningP2p step tame = inl refl
-tame_cause PreCopyP2p Running step tame = inr (inl refl)
-tame_cause Stop StopCopy step tame = inl refl
-tame_cause Stop RunningP2p step tame = inl refl
-tame_cause Stop Running step tame = inr (inr (refl, refl))
-tame_cause StopCopy Stop step tame = inl refl
-tame_cause Resuming Stop step tame = inl refl
 tame_cause _ _ step tame = absurd (false≢true step)

@@ -1,10 +1,12 @@
 -- Outstanding requests: which of them wait for their delivery, and what an issue, a delivery and a completion change.
 use Rattle.std.proofs.Common.{◌≡◌, ℕ, suc, ◌≤◌, ◌==◌, Bool, true, false, not, ◌||◌, if◌then◌else◌, List, [], ◌∷◌, ◌++◌, length, refl, ap, sym, ◌∙◌, subst, arith, eqb-true, eq-eqb}
 use Rattle.std.proofs.lemmas.Bool.{or_from, or_parts, cond-true, cond-false, or_left, or_right, false≢true}
+use Rattle.std.proofs.lemmas.List.Folds.{list_any-append}
+use Rattle.std.proofs.lemmas.Bool.{eqb-false, ne_eqb}
 use Rattle.std.specs.List.{list_any}
 use Rattle.vfm_types.specs.Requests.{job_number, without}
 use Rattle.vfm_types.specs.Outstanding.{Outstanding, deliver_if, complete_if, is_undelivered, is_arrived, is_outstanding, job_outstanding, unissued}
-use Rattle.vfm_laws.specs.Queues.{waiting, is_listed, AllDelivered}
+use Rattle.vfm_laws.specs.Queues.{waiting, is_listed, AllDelivered, AllOnce}
 use Rattle.vfm_laws.proofs.Rising.{by_bool}
 
 -- the head of a waiting list, by whether the head is delivered
@@ -215,3 +217,43 @@ waiting_test test (r ∷ requests) none =
     by_bool r.is_delivered (λ b. list_any (λ (p : ℕ × ℕ). test p.1) (if b then waiting requests else (r.number, r.job) ∷ waiting requests) ≡ false)
     (λ done. waiting_test test requests parts.1)
     (λ still. or_from (test r.job) (list_any (λ (p : ℕ × ℕ). test p.1) (waiting requests)) parts.0 (waiting_test test requests parts.1))
+
+-- numbers that stand once
+pub once_issued : (r : Outstanding) (requests : List Outstanding) → is_outstanding r.number requests ≡ false → AllOnce requests → AllOnce (requests ++ r ∷ [])
+once_issued r [] new once = (refl, tt)
+once_issued r (q ∷ requests) new once =
+    let parts = or_parts (q.number == r.number) (is_outstanding r.number requests) new in
+    let other : r.number ≡ q.number → ⊥ = λ same. eqb-false q.number r.number parts.0 (sym same) in (
+      list_any-append (λ (o : Outstanding). o.number == q.number) requests (r ∷ [])
+          ∙ or_from (is_outstanding q.number requests) ((r.number == q.number) || false) once.0 (or_from (r.number == q.number) false (ne_eqb r.number q.number other) refl),
+      once_issued r requests parts.1 once.1,
+    )
+
+outstanding_delivered : (k n : ℕ) (requests : List Outstanding) → is_outstanding k (deliver_if true n requests) ≡ is_outstanding k requests
+outstanding_delivered k n [] = refl
+outstanding_delivered k n (r ∷ requests) =
+    by_bool (r.number == n)
+    (λ c. is_outstanding k (if c then (record { number = r.number; job = r.job; is_delivered = true }) ∷ requests else r ∷ deliver_if true n requests)
+    ≡ ((r.number == k) || is_outstanding k requests))
+    (λ same. refl) (λ other. ap (λ (c : Bool). (r.number == k) || c) (outstanding_delivered k n requests))
+
+pub once_delivered : (n : ℕ) (requests : List Outstanding) → AllOnce requests → AllOnce (deliver_if true n requests)
+once_delivered n [] once = tt
+once_delivered n (r ∷ requests) once =
+    by_bool (r.number == n)
+    (λ c. AllOnce (if c then (record { number = r.number; job = r.job; is_delivered = true }) ∷ requests else r ∷ deliver_if true n requests))
+    (λ same. once) (λ other. (outstanding_delivered r.number n requests ∙ once.0, once_delivered n requests once.1))
+
+outstanding_completed : (k n : ℕ) (requests : List Outstanding) → is_outstanding k requests ≡ false → is_outstanding k (complete_if true n requests) ≡ false
+outstanding_completed k n [] out = refl
+outstanding_completed k n (r ∷ requests) out =
+    let parts = or_parts (r.number == k) (is_outstanding k requests) out in
+    by_bool (r.number == n) (λ c. is_outstanding k (if c then requests else r ∷ complete_if true n requests) ≡ false)
+    (λ same. parts.1)
+    (λ other. or_from (r.number == k) (is_outstanding k (complete_if true n requests)) parts.0 (outstanding_completed k n requests parts.1))
+
+pub once_completed : (n : ℕ) (requests : List Outstanding) → AllOnce requests → AllOnce (complete_if true n requests)
+once_completed n [] once = tt
+once_completed n (r ∷ requests) once =
+    by_bool (r.number == n) (λ c. AllOnce (if c then requests else r ∷ complete_if true n requests))
+    (λ same. once.1) (λ other. (outstanding_completed r.number n requests once.0, once_completed n requests once.1))

@@ -6,7 +6,7 @@ use Rattle.vfm_types.specs.declared.entry.Entry.{Entry}
 use Rattle.vfm_types.specs.Desc.{device_count, shape_at}
 use Rattle.vfm_types.specs.Machine.{DeviceState, device_of, numbered}
 use Rattle.vfm_types.specs.Deliveries.{machine_of}
-use Rattle.vfm_types.specs.Outstanding.{Outstanding, outstanding_of}
+use Rattle.vfm_types.specs.Outstanding.{Outstanding, outstanding_of, is_outstanding}
 use Rattle.vfm_types.specs.Words.{has_fence}
 
 -- the undelivered ones of these requests, each with its number and the number of its job, in the order of their issue
@@ -28,6 +28,11 @@ abbrev pub AllDelivered : (ℕ → Type 0) → List Outstanding → Type 0
 AllDelivered Fact [] = Unit {0}
 AllDelivered Fact (r ∷ requests) = (r.is_delivered ≡ true → Fact r.number) × AllDelivered Fact requests
 
+-- no two of these requests have one number
+abbrev pub AllOnce : List Outstanding → Type 0
+AllOnce [] = Unit {0}
+AllOnce (r ∷ requests) = (is_outstanding r.number requests ≡ false) × AllOnce requests
+
 -- the number was given to a request of this device that isn't pending any more
 abbrev pub IsGone : DeviceState → ℕ → Type 0
 IsGone device n = (n < device.accepted) × (is_listed n device.pending ≡ false)
@@ -46,6 +51,7 @@ pub record QueueKept (D : Desc) (d : ℕ) (device : DeviceState) (requests : Lis
   pub pending : device.pending ≡ waiting requests ++ rest
   pub rising : IsRising 0 device.pending device.accepted
   pub gone : AllDelivered (IsGone device) requests
+  pub once : AllOnce requests
   pub count : device.accepted ≡ device.done + length device.pending
   pub budget : device.accepted ≤ (shape_at D d).budget
   pub window : length requests ≤ (shape_at D d).window

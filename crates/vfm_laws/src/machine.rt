@@ -8,6 +8,7 @@ ghost use Rattle.vfm_types.specs.Requests.{is_enabled, plain};
 ghost use Rattle.vfm_types.specs.Deliveries.{machine_of, delivers};
 ghost use Rattle.vfm_types.specs.Valid.{IsValid};
 ghost use Rattle.vfm_plain.specs.Legal.{IsLegal};
+ghost use Rattle.vfm_plain.specs.Shape.{IsSound};
 
 /// A request that a legal list delivers is enabled in the plain machine of what stands before.
 pub fn delivery_is_enabled()
@@ -15,8 +16,10 @@ pub fn delivery_is_enabled()
         → IsTrue (is_enabled D (machine_of D past) d n) }
 {}
 
-/// The plain machine that does what a legal list delivers, in order, exists, and is the machine of the list.
+/// The plain machine that does what a legal list delivers, in order, exists and is the machine of the list, which has the
+/// shape and the counts of its description.
 pub fn machine_exists()
-    ensures { (D : Desc) → IsValid D → (past : List Entry) → IsLegal D past
+    ensures exists { (D : Desc) → IsValid D → (past : List Entry) → IsLegal D past
         → plain D (delivers (reverse past)) ≡ Some (machine_of D past) }
+    ensures sound { (D : Desc) → IsValid D → (past : List Entry) → IsLegal D past → IsSound D (machine_of D past) }
 {}

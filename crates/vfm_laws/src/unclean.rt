@@ -3,9 +3,16 @@
 
 ghost use Rattle.std.specs.Prelude.{◌≡◌, [], ◌∷◌, Some, IsFalse};
 ghost use Rattle.vfm_types.specs.declared.entry.Rule.TheVariants.{Barred, Quiet};
+ghost use Rattle.vfm_types.specs.Valid.{IsValid};
 ghost use Rattle.vfm_plain.specs.Legal.{broken};
 ghost use Rattle.vfm_laws.specs.Faults.{faults_of, is_clean_run};
 ghost use Rattle.vfm_laws.specs.Runs.{lone, peers, enters_with_barred, stops_beside_running, starts_beside_stopped, stops_with_request, issues_in_p2p, issues_when_stopped};
+
+/// The machines of these runs are valid.
+pub fn machines_are_valid()
+    ensures lone { IsValid lone }
+    ensures peers { IsValid peers }
+{}
 
 /// A device that enters a peer-to-peer state with a barred request outstanding is refused at that arc.
 pub fn barred_request_enters_p2p()
