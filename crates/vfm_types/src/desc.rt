@@ -1,11 +1,16 @@
 //! The description of a machine and of its move.
 
-ghost use Rattle.std.specs.Prelude.{◌≡◌, ◌≤◌, ◌<◌, ◌*◌, ◌^◌, ℕ, Some, None, IfOk, IsTrue};
-ghost use Rattle.vfm_types.specs.Desc.{bar_bytes, device_count};
+ghost use Rattle.std.specs.Prelude.{[], ◌≡◌, ◌≢◌, ◌≤◌, ◌<◌, ◌*◌, ◌^◌, ℕ, Some, None, List, IfOk, IfErr, MatchResult, IsTrue, nat_eq, take, length};
+ghost use Rattle.std.specs.List.{list_any};
+ghost use Rattle.std.specs.Cmp.Lexicographic.{pointwise};
+ghost use Rattle.vfm_types.specs.Desc.{bar_bytes, device_count, shape_at};
 ghost use Rattle.vfm_types.specs.Region.{region_of};
-ghost use Rattle.vfm_types.specs.Valid.{InRange};
+ghost use Rattle.vfm_types.specs.Job.{address_of, length_of, place_of, is_doorbell};
+ghost use Rattle.vfm_types.specs.declared.desc.Desc.{Desc};
+ghost use Rattle.vfm_types.specs.DescFault.{name_twice, spoils_bell, job_fault, jobs_fault, devices_fault, lacks_p2p, form_fault};
+ghost use Rattle.vfm_types.specs.Valid.{InRange, IsValid, is_job_in_range};
 
-use crate::{DeviceId, Flags, Jobs, Name, NoMemory, Place, Queue, Region, Shapes};
+use crate::{DescFault, DeviceId, Flags, Job, Jobs, Name, NoMemory, Place, Queue, Region, Shapes};
 
 // the address of device 0's BAR, and how far the next one's is from it
 const BAR_BASE: u64 = 0x1000_0000;
@@ -118,6 +123,132 @@ impl Desc {
         })
     }
 
+    /// The same description, if it is valid; its first fault, exactly where it isn't. Each number and list is in its
+    /// range already. The faults in their order: a name that stands twice, least device; by device and job, a range
+    /// that doesn't lie in one page or one BAR, a job aimed at its own device's BAR, and one that touches a doorbell
+    /// otherwise than by ringing it; a device without the peer-to-peer states among several. Takes no memory.
+    pub fn new(desc: Desc) -> Result<Desc, DescFault>
+        requires { InRange desc }
+        ensures cases { MatchResult result (λ d. form_fault desc ≡ None) (λ fault. form_fault desc ≡ Some fault) }
+        ensures same { IfOk result (λ d. d ≡ desc) }
+        ensures valid { IfOk result IsValid }
+        ensures no_memory { IfErr result (λ fault. fault ≢ DescFault.NoMemory) }
+    {
+        match desc.form_fault() {
+            Some(fault) => Err(fault),
+            None => Ok(desc),
+        }
+    }
+
+    // the first fault of a description whose members are in their ranges
+    #[tactic(auto, unfolding(crate::specs::DescFault::form_fault))]
+    fn form_fault(&self) -> Option<DescFault>
+        requires { InRange self.now }
+        ensures { result ≡ form_fault self.now }
+    {
+        if let Some(fault) = self.name_twice() {
+            return Some(fault);
+        }
+        if let Some(fault) = self.devices_fault() {
+            return Some(fault);
+        }
+        if self.devices.len() > 1 {
+            self.lacks_p2p()
+        } else {
+            None
+        }
+    }
+
+    // the first device that has the name of an earlier one
+    fn name_twice(&self) -> Option<DescFault>
+        ensures { result ≡ name_twice [] 0 self.now.devices }
+    {
+        let shapes = self.devices.as_slice();
+        for d in 0..self.devices.len() {
+            if is_name_taken(&shapes[d as usize], &shapes[..d as usize]) {
+                return Some(DescFault::NameTwice { device: d });
+            }
+        }
+        None
+    }
+
+    // the first fault of the jobs, by device and job
+    fn devices_fault(&self) -> Option<DescFault>
+        requires { InRange self.now }
+        ensures { result ≡ devices_fault self.now 0 self.now.devices }
+    {
+        for d in 0..self.devices.len() {
+            if let Some(fault) = self.jobs_fault(d) {
+                return Some(fault);
+            }
+        }
+        None
+    }
+
+    // the first fault of the jobs of one device
+    fn jobs_fault(&self, d: u32) -> Option<DescFault>
+        requires in_range { InRange self.now }
+        requires device { d < device_count self.now }
+        ensures { result ≡ jobs_fault self.now d 0 (shape_at self.now d).jobs }
+    {
+        let jobs = &self.devices.at(d).jobs;
+        for j in 0..jobs.len() {
+            if let Some(fault) = self.job_fault(d, j, jobs.at(j)) {
+                return Some(fault);
+            }
+        }
+        None
+    }
+
+    // the first fault of one job
+    fn job_fault(&self, d: u32, j: u32, job: &Job) -> Option<DescFault>
+        requires in_range { InRange self.now }
+        requires device { d < device_count self.now }
+        requires job { IsTrue (is_job_in_range job.now) }
+        ensures { result ≡ job_fault self.now d j job.now }
+    {
+        match self.region_of(job.address(), job.length()) {
+            None => Some(DescFault::Crosses { device: d, job: j }),
+            Some(place) => placed_job_fault(DeviceId(d as u8), j, job, &place),
+        }
+    }
+
+    // the first device without the peer-to-peer states
+    fn lacks_p2p(&self) -> Option<DescFault>
+        ensures { result ≡ lacks_p2p 0 self.now.devices }
+    {
+        for d in 0..self.devices.len() {
+            if !self.devices.at(d).flags.has_p2p() {
+                return Some(DescFault::NeedsP2p { device: d });
+            }
+        }
+        None
+    }
+
+    /// Where a job of the description is aimed.
+    pub fn place_of(&self, job: &Job) -> Place
+        requires in_range { InRange self.now }
+        requires job { IsTrue (is_job_in_range job.now) }
+        ensures { result ≡ place_of self.now job.now }
+    {
+        match self.region_of(job.address(), job.length()) {
+            Some(place) => place,
+            None => Place {
+                region: Region::Page(0),
+                offset: 0,
+            },
+        }
+    }
+
+    /// Whether the job rings a doorbell.
+    pub fn is_doorbell(&self, job: &Job) -> bool
+        requires in_range { InRange self.now }
+        requires job { IsTrue (is_job_in_range job.now) }
+        ensures { result ≡ is_doorbell self.now job.now }
+    {
+        job.may_ring() && self.place_of(job).is_bell(job.length())
+    }
+
     /// An equal description.
     pub fn copy(&self) -> Result<Desc, NoMemory>
         ensures { IfOk result (λ copy. copy ≡ self.now) }
@@ -134,5 +265,77 @@ impl Desc {
             threshold: self.threshold,
             devices,
         })
+    }
+}
+
+// whether one of the devices has the name of this one
+fn is_name_taken(shape: &DevShape, others: &[DevShape]) -> bool
+    ensures { result ≡ list_any (λ other. pointwise nat_eq shape.now.name other.name) others.now }
+{
+    let name = shape.name.bytes();
+    others.iter().any(|other| name == other.name.bytes())
+}
+
+// the first fault of a job that is aimed at this place
+fn placed_job_fault(d: DeviceId, j: u32, job: &Job, place: &Place) -> Option<DescFault>
+    ensures { (D : Desc) → region_of D (address_of job.now) (length_of job.now) ≡ Some place.now → result ≡ job_fault D d j job.now }
+{
+    let device = u32::from(d.0);
+    if place.region.is_bar_of(d) {
+        return Some(DescFault::OwnBar { device, job: j });
+    }
+    let is_front = place.region.is_bar() && place.offset < 8;
+    let rings = job.may_ring() && place.is_bell(job.length());
+    if job.is_writer() && is_front && !rings {
+        return Some(DescFault::BellKind { device, job: j });
+    }
+    None
+}
+
+#[cfg(test)]
+mod tests {
+    use super::*;
+    use crate::Bytes64;
+    use std::test::Fail;
+
+    #[test]
+    fn copies_a_description(rt: HostRuntime) -> Result<(), Fail> {
+        let alloc = rt.alloc();
+        let bytes = Bytes64::of(&[7, 0, 0, 0, 0, 0, 0, 0]).ok_or("bytes")?;
+        let jobs = vec![in alloc; Job::Write { at: 16, bytes }, Job::Read { at: 32, len: 5 }]?;
+        let queue = vec![in alloc; 1, 0, 1]?;
+        let shape = DevShape {
+            name: Name::of(b"nic_0").ok_or("name")?,
+            flags: Flags::of(3).ok_or("flags")?,
+            bar: 128,
+            window: 2,
+            tells: true,
+            budget: 5,
+            fails: 1,
+            jobs: Jobs::of(jobs),
+            queue: Queue::of(queue),
+        };
+        let shapes = vec![in alloc; shape]?;
+        let desc = Desc {
+            session: 9,
+            page: 64,
+            pages: 4,
+            channels: 2,
+            version: 1,
+            begin: 3,
+            rounds: 4,
+            threshold: 6,
+            devices: Shapes::of(shapes),
+        };
+        let copy = desc.copy()?;
+        assert_eq!(rt; copy.threshold, 6);
+        assert_eq!(rt; copy.devices.len(), 1);
+        let shape = copy.devices.at(0);
+        assert_eq!(rt; shape.name.bytes(), b"nic_0".as_slice());
+        assert_eq!(rt; shape.queue.as_slice(), [1, 0, 1].as_slice());
+        assert_eq!(rt; shape.jobs.len(), 2);
+        assert_eq!(rt; shape.jobs.at(0).length(), 8);
+        assert_eq!(rt; shape.jobs.at(1).address(), 32);
+        Ok(())
     }
 }

@@ -105,15 +105,15 @@ pub struct Place {
 
 impl Region {
     /// Whether it is a BAR.
-    pub fn is_bar(self) -> bool
-        ensures { result ≡ is_bar self }
+    pub fn is_bar(&self) -> bool
+        ensures { result ≡ is_bar self.now }
     {
         matches!(self, Region::Bar(_))
     }
 
     /// Whether it is the BAR of this device.
-    pub fn is_bar_of(self, d: DeviceId) -> bool
-        ensures { result ≡ is_bar_of d self }
+    pub fn is_bar_of(&self, d: DeviceId) -> bool
+        ensures { result ≡ is_bar_of d self.now }
     {
         match self {
             Region::Page(_) => false,
@@ -124,8 +124,8 @@ impl Region {
 
 impl Place {
     /// Whether `len` bytes from here are a doorbell: the first 8 bytes of a BAR.
-    pub fn is_bell(self, len: u32) -> bool
-        ensures { result ≡ is_bell self len }
+    pub fn is_bell(&self, len: u32) -> bool
+        ensures { result ≡ is_bell self.now len }
     {
         self.region.is_bar() && self.offset == 0 && len == 8
     }

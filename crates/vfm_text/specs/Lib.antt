@@ -1,0 +1,3 @@
+pub mod Pens
+pub mod Gathered
+pub mod GatheredLaws
