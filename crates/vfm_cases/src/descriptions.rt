@@ -95,5 +95,4 @@ pub fn doorbells_are_known()
 pub fn valid_machines_exist()
     ensures one { IsValid one }
     ensures three { IsValid trio }
-{
-}
+{}

@@ -45,9 +45,6 @@ pub fn entries_are_printed()
 
 /// The digest of the state of one device after its write, as other programs for SHA-256 give it.
 pub fn state_has_its_digest()
-    ensures {
-        state_digest one one_end
-            ≡ 57 ∷ 46 ∷ 170 ∷ 141 ∷ 38 ∷ 111 ∷ 199 ∷ 202 ∷ 222 ∷ 200 ∷ 180 ∷ 160 ∷ 14 ∷ 100 ∷ 139 ∷ 223 ∷ 202 ∷ 245 ∷ 178 ∷ 234 ∷ 34 ∷ 199 ∷ 199 ∷ 216 ∷ 242 ∷ 12 ∷ 36 ∷ 175 ∷ 30 ∷ 186 ∷ 29 ∷ 198 ∷ []
-    }
-{
-}
+    ensures { state_digest one one_end
+        ≡ 57 ∷ 46 ∷ 170 ∷ 141 ∷ 38 ∷ 111 ∷ 199 ∷ 202 ∷ 222 ∷ 200 ∷ 180 ∷ 160 ∷ 14 ∷ 100 ∷ 139 ∷ 223 ∷ 202 ∷ 245 ∷ 178 ∷ 234 ∷ 34 ∷ 199 ∷ 199 ∷ 216 ∷ 242 ∷ 12 ∷ 36 ∷ 175 ∷ 30 ∷ 186 ∷ 29 ∷ 198 ∷ [] }
+{}
