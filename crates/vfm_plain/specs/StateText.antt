@@ -6,7 +6,7 @@ use Rattle.sha2.specs.Sha256.{sha256}
 use Rattle.vfm_types.specs.declared.desc.Desc.{Desc}
 use Rattle.vfm_types.specs.Desc.{shape_at}
 use Rattle.vfm_types.specs.Machine.{DeviceState, Machine}
-use Rattle.vfm_plain.specs.Text.{line}
+use Rattle.vfm_plain.specs.Text.{line, numbered_text}
 
 -- the line of page p
 abbrev pub page_line : ℕ → List ℕ → List ℕ
@@ -14,8 +14,7 @@ page_line p bytes = line (codes "page") (decimal p ∷ encode_lower bytes ∷ []
 
 -- the lines of these pages, numbered from p on
 abbrev pub pages_text : ℕ → List (List ℕ) → List ℕ
-pages_text p [] = []
-pages_text p (bytes ∷ pages) = page_line p bytes ++ pages_text (p + 1) pages
+pages_text p pages = numbered_text page_line p pages
 
 -- the line of a pending request of device d
 abbrev pub pending_line : ℕ → ℕ × ℕ → List ℕ
@@ -27,16 +26,25 @@ counts_line d name device =
     line (codes "device") (decimal d ∷ name ∷ codes "accepted" ∷ decimal device.accepted ∷ codes "done"
     ∷ decimal device.done ∷ codes "lost" ∷ decimal device.lost ∷ [])
 
+-- the line of its buffer, and that of its BAR
+abbrev pub buf_line : ℕ → DeviceState → List ℕ
+buf_line d device = line (codes "buf") (decimal d ∷ encode_lower device.buf ∷ [])
+
+abbrev pub bar_line : ℕ → DeviceState → List ℕ
+bar_line d device = line (codes "bar") (decimal d ∷ encode_lower device.bar ∷ [])
+
 -- the lines of device d
 abbrev pub device_text : ℕ → List ℕ → DeviceState → List ℕ
 device_text d name device =
-    counts_line d name device ++ line (codes "buf") (decimal d ∷ encode_lower device.buf ∷ [])
-    ++ line (codes "bar") (decimal d ∷ encode_lower device.bar ∷ []) ++ flat_map (pending_line d) device.pending
+    counts_line d name device ++ buf_line d device ++ bar_line d device ++ flat_map (pending_line d) device.pending
+
+-- the lines of device d of the description
+abbrev pub described_text : Desc → ℕ → DeviceState → List ℕ
+described_text D d device = device_text d (shape_at D d).name device
 
 -- the lines of these devices, numbered from d on
 abbrev pub devices_text : Desc → ℕ → List DeviceState → List ℕ
-devices_text D d [] = []
-devices_text D d (device ∷ devices) = device_text d (shape_at D d).name device ++ devices_text D (d + 1) devices
+devices_text D d devices = numbered_text (described_text D) d devices
 
 -- the text of a machine: its pages, then its devices
 abbrev pub state_text : Desc → Machine → List ℕ

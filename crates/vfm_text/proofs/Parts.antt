@@ -1,9 +1,9 @@
 -- A text in parts: what comes of one more element of a list, and of bytes cut in two.
-use Rattle.std.proofs.Common.{◌≡◌, ℕ, zero, suc, ◌+◌, ◌/◌, ◌%◌, ◌<◌, List, [], ◌∷◌, ◌++◌, length, get_or, take, drop, map, refl, ap, sym, ◌∙◌, append_assoc, append-nil, arith}
+use Rattle.std.proofs.Common.{◌≡◌, ℕ, zero, suc, ◌+◌, ◌/◌, ◌%◌, ◌<◌, List, [], ◌∷◌, ◌++◌, length, get_or, take, drop, map, refl, ap, sym, ◌∙◌, append_assoc, append-nil, add-zero, arith}
 use Rattle.std.specs.List.{flat_map}
 use Rattle.std.proofs.lemmas.List.{take-append-drop}
 use Rattle.std.proofs.Math.Seq.{take-add}
-use Rattle.vfm_plain.specs.Text.{line}
+use Rattle.vfm_plain.specs.Text.{line, numbered_text}
 use Rattle.hex.specs.Hex.{encode_with, encode_lower, lower_digits}
 
 -- the text of a list is that of its first i elements, then that of the next, then that of the rest
@@ -70,3 +70,28 @@ hex-line word number digits =
     ∙ sym (append_assoc (word ++ 32 ∷ (number ++ 32 ∷ [])) digits (10 ∷ [])
     ∙ (append_assoc word (32 ∷ (number ++ 32 ∷ [])) (digits ++ 10 ∷ [])
     ∙ ap (λ t. word ++ 32 ∷ t) (append_assoc number (32 ∷ []) (digits ++ 10 ∷ []))))
+
+-- a numbered text with one more of the list
+pub numbered-more : {X : Type 0} (f : ℕ → X → List ℕ) (n : ℕ) (xs : List X) (i : ℕ) (d : X) → i < length xs → numbered_text f n (take (suc i) xs) ≡ numbered_text f n (take i xs) ++ f (n + i) (get_or xs i d)
+numbered-more f n [] i d h = absurd (omega arith)
+numbered-more f n (x ∷ xs) zero d h = append-nil (f n x) ∙ ap (λ k. f k x) (sym (add-zero n))
+numbered-more f n (x ∷ xs) (suc i) d h =
+    let below : i < length xs = omega arith in
+    let same : (n + 1) + i ≡ n + suc i = omega arith in
+    ap (λ t. f n x ++ t) (numbered-more f (n + 1) xs i d below ∙ ap (λ k. numbered_text f (n + 1) (take i xs) ++ f k (get_or xs i d)) same)
+    ∙ sym (append_assoc (f n x) (numbered_text f (n + 1) (take i xs)) (f (n + suc i) (get_or xs i d)))
+
+-- a numbered text is that of the first i, then that of the next, then that of the rest
+pub numbered-parts : {X : Type 0} (f : ℕ → X → List ℕ) (n : ℕ) (xs : List X) (i : ℕ) (d : X) → i < length xs → numbered_text f n xs ≡ (numbered_text f n (take i xs) ++ f (n + i) (get_or xs i d)) ++ numbered_text f (n + suc i) (drop (suc i) xs)
+numbered-parts f n [] i d h = absurd (omega arith)
+numbered-parts f n (x ∷ xs) zero d h = ap (λ k. f k x ++ numbered_text f (n + 1) xs) (sym (add-zero n))
+numbered-parts f n (x ∷ xs) (suc i) d h =
+    let below : i < length xs = omega arith in
+    let same : (n + 1) + i ≡ n + suc i = omega arith in
+    let next : (n + 1) + suc i ≡ n + suc (suc i) = omega arith in
+    let rest : List ℕ = numbered_text f (n + suc (suc i)) (drop (suc i) xs) in
+    ap (λ t. f n x ++ t) (numbered-parts f (n + 1) xs i d below
+        ∙ (ap (λ k. (numbered_text f (n + 1) (take i xs) ++ f k (get_or xs i d)) ++ numbered_text f ((n + 1) + suc i) (drop (suc i) xs)) same
+        ∙ ap (λ k. (numbered_text f (n + 1) (take i xs) ++ f (n + suc i) (get_or xs i d)) ++ numbered_text f k (drop (suc i) xs)) next))
+    ∙ (sym (append_assoc (f n x) (numbered_text f (n + 1) (take i xs) ++ f (n + suc i) (get_or xs i d)) rest)
+    ∙ ap (λ t. t ++ rest) (sym (append_assoc (f n x) (numbered_text f (n + 1) (take i xs)) (f (n + suc i) (get_or xs i d)))))

@@ -50,7 +50,7 @@ fn put_device<P: Pen>(pen: &mut P, word: &[u8], d: DeviceId, number: u32) -> Res
 }
 
 /// Writes a line of a word, a device and a state.
-fn put_state<P: Pen>(pen: &mut P, word: &[u8], d: DeviceId, to: MigState) -> Result<(), Failed>
+fn put_to<P: Pen>(pen: &mut P, word: &[u8], d: DeviceId, to: MigState) -> Result<(), Failed>
     ensures { Writes P.takes P.stops pen.old pen.new (line word.now (decimal d ∷ state_name to ∷ [])) result }
 {
     let mut device = Buffer::new();
@@ -69,9 +69,9 @@ pub fn put_entry<P: Pen>(pen: &mut P, entry: Entry) -> Result<(), Failed>
         Entry::Issue { d, n } => put_device(pen, b"issue", d, n),
         Entry::Deliver { d, n } => put_device(pen, b"deliver", d, n),
         Entry::Complete { d, n } => put_device(pen, b"complete", d, n),
-        Entry::Hold { d, to } => put_state(pen, b"hold", d, to),
-        Entry::Arc { d, to } => put_state(pen, b"arc", d, to),
-        Entry::Fail { d, to } => put_state(pen, b"fail", d, to),
+        Entry::Hold { d, to } => put_to(pen, b"hold", d, to),
+        Entry::Arc { d, to } => put_to(pen, b"arc", d, to),
+        Entry::Fail { d, to } => put_to(pen, b"fail", d, to),
         Entry::Report { d } => put_number(pen, b"report", u32::from(d.0)),
         Entry::Pass { k } => put_number(pen, b"pass", k),
         Entry::Copy { p } => put_number(pen, b"copy", p),

@@ -6,5 +6,6 @@ mod gather;
 mod pen;
 mod piece;
 mod sink_pen;
+mod state;
 
 pub use pen::Pen;
