@@ -19,3 +19,5 @@ pub mod Duo
 pub mod Three
 pub mod DuoFailing
 pub mod ThreeFailing
+pub mod Mono
+pub mod GivenUp

@@ -2,7 +2,7 @@
 //! places and rules were found by the program that made the runs.
 
 ghost use Rattle.std.specs.Prelude.{◌≡◌, Some};
-ghost use Rattle.vfm_types.specs.declared.entry.Entry.TheVariants.{Issue, Hold, Report, Pass, Copy, Block, Dry, Joint, Abort, Resume};
+ghost use Rattle.vfm_types.specs.declared.entry.Entry.TheVariants.{Issue, Hold, Arc, Report, Pass, Copy, Block, Dry, Joint, Abort, Resume};
 ghost use Rattle.vfm_types.specs.declared.state.MigState.TheVariants.{Stop, StopCopy};
 ghost use Rattle.vfm_types.specs.declared.entry.Rule.TheVariants.{Turn, Path, Barred, Quiet, Start, Pages, Blocks, Joint as Standing, Decide, Order};
 ghost use Rattle.vfm_plain.specs.Legal.{broken};
@@ -12,6 +12,7 @@ ghost use Rattle.vfm_cases.specs.Duo.{duo, duo_ordered, duo_scattered, duo_given
 ghost use Rattle.vfm_cases.specs.Three.{three, three_ordered, three_scattered, three_given_up};
 ghost use Rattle.vfm_cases.specs.DuoFailing.{duo_failing, duo_failing_run};
 ghost use Rattle.vfm_cases.specs.ThreeFailing.{three_failing, three_failing_run};
+ghost use Rattle.vfm_cases.specs.Mono.{mono, mono_ordered, mono_scattered};
 
 /// Each device and the coordinator in turn, then the destination.
 pub fn solo_ordered_is_broken()
@@ -231,4 +232,44 @@ pub fn three_failing_run_is_broken_too()
     ensures put_1_block { broken three_failing (inserting 1 (Block 1 0) three_failing_run) ≡ Some (1, Blocks) }
     ensures put_2_dry { broken three_failing (inserting 2 (Dry 0) three_failing_run) ≡ Some (2, Blocks) }
     ensures put_1_report { broken three_failing (inserting 1 (Report 1) three_failing_run) ≡ Some (1, Pages) }
+{}
+
+/// Each device and the coordinator in turn, then the destination.
+pub fn mono_ordered_is_broken()
+    ensures left_out_29 { broken mono (omitting 29 mono_ordered) ≡ Some (29, Order) }
+    ensures exchanged_29 { broken mono (exchanging 29 mono_ordered) ≡ Some (29, Order) }
+    ensures left_out_20 { broken mono (omitting 20 mono_ordered) ≡ Some (21, Quiet) }
+    ensures left_out_2 { broken mono (omitting 2 mono_ordered) ≡ Some (2, Start) }
+    ensures exchanged_2 { broken mono (exchanging 2 mono_ordered) ≡ Some (2, Start) }
+    ensures left_out_27 { broken mono (omitting 27 mono_ordered) ≡ Some (27, Blocks) }
+{}
+
+/// Each device and the coordinator in turn, then the destination.
+pub fn mono_ordered_is_broken_too()
+    ensures exchanged_27 { broken mono (exchanging 27 mono_ordered) ≡ Some (27, Blocks) }
+    ensures exchanged_1 { broken mono (exchanging 1 mono_ordered) ≡ Some (1, Turn) }
+    ensures exchanged_26 { broken mono (exchanging 26 mono_ordered) ≡ Some (26, Pages) }
+    ensures left_out_19 { broken mono (omitting 19 mono_ordered) ≡ Some (20, Order) }
+    ensures left_out_15 { broken mono (omitting 15 mono_ordered) ≡ Some (16, Decide) }
+    ensures left_out_3 { broken mono (omitting 3 mono_ordered) ≡ Some (3, Start) }
+{}
+
+/// The same machine in another order.
+pub fn mono_scattered_is_broken()
+    ensures left_out_29 { broken mono (omitting 29 mono_scattered) ≡ Some (29, Order) }
+    ensures exchanged_29 { broken mono (exchanging 29 mono_scattered) ≡ Some (29, Order) }
+    ensures put_21_arc { broken mono (inserting 21 (Arc 0 Stop) mono_scattered) ≡ Some (21, Quiet) }
+    ensures left_out_21 { broken mono (omitting 21 mono_scattered) ≡ Some (21, Quiet) }
+    ensures exchanged_21 { broken mono (exchanging 21 mono_scattered) ≡ Some (21, Quiet) }
+    ensures left_out_2 { broken mono (omitting 2 mono_scattered) ≡ Some (2, Start) }
+{}
+
+/// The same machine in another order.
+pub fn mono_scattered_is_broken_too()
+    ensures exchanged_2 { broken mono (exchanging 2 mono_scattered) ≡ Some (2, Start) }
+    ensures left_out_27 { broken mono (omitting 27 mono_scattered) ≡ Some (27, Blocks) }
+    ensures exchanged_27 { broken mono (exchanging 27 mono_scattered) ≡ Some (27, Blocks) }
+    ensures exchanged_18 { broken mono (exchanging 18 mono_scattered) ≡ Some (18, Turn) }
+    ensures left_out_17 { broken mono (omitting 17 mono_scattered) ≡ Some (19, Order) }
+    ensures left_out_14 { broken mono (omitting 14 mono_scattered) ≡ Some (14, Decide) }
 {}

@@ -6,6 +6,7 @@ ghost use Rattle.vfm_types.specs.declared.job.Region.TheVariants.{Page, Bar};
 ghost use Rattle.vfm_types.specs.declared.fault.DescFault.TheVariants.{NameTwice, Crosses, OwnBar, BellKind, NeedsP2p};
 ghost use Rattle.vfm_types.specs.DescFault.{form_fault};
 ghost use Rattle.vfm_types.specs.Region.{region_of};
+ghost use Rattle.vfm_types.specs.Valid.{IsValid};
 ghost use Rattle.vfm_types.specs.Job.{is_doorbell};
 ghost use Rattle.vfm_cases.specs.Bare.{eight};
 ghost use Rattle.vfm_cases.specs.One.{one};
@@ -87,4 +88,11 @@ pub fn doorbells_are_known()
     ensures short { is_doorbell peers (Write 268959744 (1 ∷ [])) ≡ false }
     ensures later { is_doorbell peers (Write 268959752 (eight 0)) ≡ false }
     ensures memory { is_doorbell peers (Write 0 (eight 0)) ≡ false }
+{}
+
+/// Machines that are valid in every point.
+#[tactic(auto, unfolding(vfm_types::specs::DescFault::form_fault))]
+pub fn valid_machines_exist()
+    ensures one { IsValid one }
+    ensures three { IsValid trio }
 {}

@@ -6,6 +6,7 @@ pub mod blocks;
 pub mod changed;
 pub mod clean;
 pub mod descriptions;
+pub mod given_up;
 pub mod large;
 pub mod marks;
 pub mod paths;

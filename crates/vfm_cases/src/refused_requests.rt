@@ -61,8 +61,7 @@ pub fn wrong_delivery_is_refused()
 pub fn second_doing_is_refused()
     ensures issued { broken one (one_source ++ Resume ∷ Issue 0 0 ∷ []) ≡ Some (13, Turn) }
     ensures delivered { broken one (one_source ++ Resume ∷ Deliver 0 0 ∷ []) ≡ Some (13, Turn) }
-{
-}
+{}
 
 /// A completion of what isn't outstanding, isn't delivered, or was completed.
 pub fn wrong_completion_is_refused()

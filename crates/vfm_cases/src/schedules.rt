@@ -10,6 +10,7 @@ ghost use Rattle.vfm_cases.specs.Duo.{duo, duo_ordered, duo_scattered, duo_given
 ghost use Rattle.vfm_cases.specs.Three.{three, three_ordered, three_scattered, three_given_up};
 ghost use Rattle.vfm_cases.specs.DuoFailing.{duo_failing, duo_failing_run};
 ghost use Rattle.vfm_cases.specs.ThreeFailing.{three_failing, three_failing_run};
+ghost use Rattle.vfm_cases.specs.Mono.{mono, mono_ordered, mono_scattered};
 
 /// A machine with one device, which has PRE_COPY and no peer-to-peer states.
 #[tactic(auto, unfolding(vfm_types::specs::DescFault::form_fault))]
@@ -61,4 +62,14 @@ pub fn three_failing_runs_are_legal()
     ensures valid { form_fault three_failing ≡ None }
     ensures run { broken three_failing three_failing_run ≡ None }
     ensures run_on { went_on three_failing (reverse three_failing_run) ≡ true }
+{}
+
+/// A machine with one device, which has the peer-to-peer states and no PRE_COPY.
+#[tactic(auto, unfolding(vfm_types::specs::DescFault::form_fault))]
+pub fn mono_runs_are_legal()
+    ensures valid { form_fault mono ≡ None }
+    ensures ordered { broken mono mono_ordered ≡ None }
+    ensures ordered_ended { has_ended mono (reverse mono_ordered) ≡ true }
+    ensures scattered { broken mono mono_scattered ≡ None }
+    ensures scattered_ended { has_ended mono (reverse mono_scattered) ≡ true }
 {}

@@ -6,7 +6,7 @@ ghost use Rattle.vfm_types.specs.declared.state.MigState.TheVariants.{Error, Res
 ghost use Rattle.vfm_types.specs.Deliveries.{machine_of};
 ghost use Rattle.vfm_types.specs.Machine.{device_of};
 ghost use Rattle.vfm_plain.specs.EntryText.{journal_text};
-ghost use Rattle.vfm_plain.specs.StateText.{state_text, device_text, pending_line};
+ghost use Rattle.vfm_plain.specs.StateText.{state_text, state_digest, pending_line};
 ghost use Rattle.vfm_plain.specs.Report.{report_text};
 ghost use Rattle.vfm_cases.specs.One.{one};
 ghost use Rattle.vfm_cases.specs.Bells.{bell, bell_joint};
@@ -41,4 +41,10 @@ pub fn entries_are_printed()
         ≡ lines (codes "report 1" ∷ codes "dry 7" ∷ codes "issue 2 4294967295" ∷ codes "hold 3 PRE_COPY_P2P"
         ∷ codes "arc 4 PRE_COPY" ∷ codes "fail 5 RUNNING_P2P" ∷ codes "hold 0 RESUMING" ∷ codes "hold 0 ERROR"
         ∷ codes "block 7 1023" ∷ codes "pass 10" ∷ codes "copy 100" ∷ []) }
+{}
+
+/// The digest of the state of one device after its write, as other programs for SHA-256 give it.
+pub fn state_has_its_digest()
+    ensures { state_digest one one_end
+        ≡ 57 ∷ 46 ∷ 170 ∷ 141 ∷ 38 ∷ 111 ∷ 199 ∷ 202 ∷ 222 ∷ 200 ∷ 180 ∷ 160 ∷ 14 ∷ 100 ∷ 139 ∷ 223 ∷ 202 ∷ 245 ∷ 178 ∷ 234 ∷ 34 ∷ 199 ∷ 199 ∷ 216 ∷ 242 ∷ 12 ∷ 36 ∷ 175 ∷ 30 ∷ 186 ∷ 29 ∷ 198 ∷ [] }
 {}
