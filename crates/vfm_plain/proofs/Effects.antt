@@ -1,5 +1,5 @@
 -- What an effect leaves of each device, and what each machine that comes of a description has.
-use Rattle.std.proofs.Common.{◌≡◌, ℕ, suc, zero, ◌+◌, ◌-◌, ◌*◌, ◌<◌, ◌≤◌, ◌==◌, ◌&&◌, ◌||◌, not, Bool, true, false, if◌then◌else◌, nat_lt, IsTrue, List, [], ◌∷◌, ◌++◌, length, map, take, drop, replicate, slice_index_or, slice_set, filter, Option, Some, None, ◌⊎◌, inl, inr, refl, sym, ap, ◌∙◌, subst, arith}
+use Rattle.std.proofs.Common.{◌≡◌, ℕ, suc, zero, ◌+◌, ◌-◌, ◌*◌, ◌<◌, ◌≤◌, ◌==◌, ◌&&◌, ◌||◌, not, Bool, true, false, if◌then◌else◌, nat_lt, IsTrue, List, [], ◌∷◌, ◌++◌, length, map, take, drop, replicate, remove, slice_index_or, slice_set, filter, ap₂, Option, Some, None, ◌⊎◌, inl, inr, refl, sym, ap, ◌∙◌, subst, arith}
 use Rattle.std.specs.List.{All, sum_by, list_all}
 use Rattle.std.specs.Int.{w64, from_le_bytes}
 use Rattle.std.proofs.lemmas.Bool.{false≢true, ltb-true, leb-true, ltb-false, cases_lt}
@@ -336,3 +336,17 @@ idle-described D empty e = at (cases_lt e (device_count D))
 
 pub serial-no_requests : (D : Desc) → ((d : ℕ) → d < device_count D → (shape_at D d).queue ≡ []) → serial D ≡ described D
 serial-no_requests D empty = serial-idle D (all_budgets D) (described D) (idle-described D empty)
+
+-- ---- as the calls make it
+
+pub sound_made : (D : Desc) (pages : List (List ℕ)) (devices : List DeviceState) → IsValid D → pages ≡ replicate D.pages (replicate D.page 0) → devices ≡ map described_device D.devices → IsSound D (record { pages = pages; devices = devices })
+sound_made D pages devices valid same_pages same_devices =
+    let e : described D ≡ record { pages = pages; devices = devices } = cc in
+    subst (IsSound D) e (described_sound D valid)
+
+pub sound_applied : (D : Desc) (m took after : Machine) (d n k number : ℕ) (job : Job) → IsValid D → true ≡ is_enabled D m d n → remove (device_of m d).pending k ≡ without n (device_of m d).pending → took ≡ with_device m d (record (device_of m d) { pending = remove (device_of m d).pending k; done = (device_of m d).done + 1 }) → number ≡ (slice_index_or (device_of m d).pending k (0, 0)).1 → (slice_index_or (device_of m d).pending k (0, 0)).1 ≡ job_number n (device_of m d).pending → job ≡ job_at D d number → after ≡ effect D took d job → IsSound D m → IsSound D after
+sound_applied D m took after d n k number job valid free rest is_took is_number is_job job_is is_after sound =
+    let start : took ≡ with_device m d (taken (device_of m d) n) = is_took ∙ ap (λ (p : List (ℕ × ℕ)). with_device m d (record (device_of m d) { pending = p; done = (device_of m d).done + 1 })) rest in
+    let its : job ≡ job_of D m d n = job_is ∙ ap (job_at D d) (is_number ∙ is_job) in
+    let e : after ≡ do_request D m d n = is_after ∙ ap₂ (λ (x : Machine) (j : Job). effect D x d j) start its in
+    subst (IsSound D) (sym e) (sound-do_request D m d n valid (sym free) sound)

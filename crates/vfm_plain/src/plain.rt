@@ -6,7 +6,7 @@ ghost use Rattle.vfm_types.specs.Job.{length_of, owner_of, place_of};
 ghost use Rattle.vfm_types.specs.Valid.{IsValid, IsSoundJob, is_job_in_range};
 ghost use Rattle.vfm_types.specs.Machine.{device_of, with_device, described, described_device, bytes_in, bytes_at, put_at, write_at, with_front, ring, added, effect};
 ghost use Rattle.vfm_types.specs.Requests.{is_enabled, job_of, job_number, without, taken, do_request};
-ghost use Rattle.vfm_plain.specs.Shape.{HasShape, HasRegion, CanLose, Lies};
+ghost use Rattle.vfm_plain.specs.Shape.{HasShape, HasRegion, CanLose, Lies, IsSound};
 
 use crate::engine::Engine;
 use crate::sheet::{Sheet, added_to, held_bytes, number_of};
@@ -40,7 +40,8 @@ impl Plain {
     /// Each device has room for the most requests that any budget allows, so that no later call takes memory.
     pub fn of(alloc: Global, desc: &Desc) -> Result<Plain, NoMemory>
         requires { IsValid desc.now }
-        ensures { IfOk result (λ plain. plain ≡ described desc.now) }
+        ensures value { IfOk result (λ plain. plain ≡ described desc.now) }
+        ensures sound { IfOk result (IsSound desc.now) }
     {
         let pages = zero_pages(alloc, desc.pages, desc.page)?;
         let devices = described_engines(alloc, &desc.devices)?;
@@ -139,6 +140,7 @@ impl Plain {
         ensures done { OnOk result (self.new ≡ do_request desc.now self.old d n) }
         ensures refused { OnErr result (self.new ≡ self.old) }
         ensures shape { HasShape desc.now self.new }
+        ensures sound { IsSound desc.now self.old → IsSound desc.now self.new }
     {
         let Some(k) = self.free(desc, d, n) else {
             return Err(NotEnabled);
