@@ -47,8 +47,12 @@ numbered n (job ∷ jobs) = (n, job) ∷ numbered (n + 1) jobs
 abbrev pub described_device : DevShape → DeviceState
 described_device shape =
     record {
-      bar = replicate (bar_bytes shape) 0; pending = numbered 0 shape.queue; buf = replicate 64 0;
-      accepted = length shape.queue; done = 0; lost = 0;
+      bar = replicate (bar_bytes shape) 0;
+      pending = numbered 0 shape.queue;
+      buf = replicate 64 0;
+      accepted = length shape.queue;
+      done = 0;
+      lost = 0;
     }
 
 -- the machine as described

@@ -38,8 +38,8 @@ abbrev pub outstanding_of : Desc → ℕ → List Entry → List Outstanding
 outstanding_of D d [] = []
 outstanding_of D d (Issue e n ∷ past) =
     issue_if (e == d)
-      (record { number = n; job = job_number n (device_of (machine_of D past) d).pending; is_delivered = false })
-      (outstanding_of D d past)
+    (record { number = n; job = job_number n (device_of (machine_of D past) d).pending; is_delivered = false })
+    (outstanding_of D d past)
 outstanding_of D d (Deliver e n ∷ past) = deliver_if (e == d) n (outstanding_of D d past)
 outstanding_of D d (Complete e n ∷ past) = complete_if (e == d) n (outstanding_of D d past)
 outstanding_of D d (entry ∷ past) = outstanding_of D d past

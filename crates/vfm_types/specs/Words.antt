@@ -66,7 +66,7 @@ abbrev pub is_decided : Desc → List Entry → Bool
 is_decided D past =
     D.rounds == 0
     || (nat_lt 0 (pass_count past) && is_pass_ended D past
-        && (nat_le D.rounds (pass_count past) || nat_le (set_size D past) D.threshold))
+    && (nat_le D.rounds (pass_count past) || nat_le (set_size D past) D.threshold))
 
 -- the next state of device d on its way to a state
 abbrev pub is_next_towards : Desc → ℕ → MigState → MigState → List Entry → Bool
@@ -86,6 +86,6 @@ is_held_for d to past = held (hold_of d past)
 abbrev pub is_way_open : Desc → ℕ → MigState → List Entry → Bool
 is_way_open D d to past =
     (same_state (state_of d past) Running && same_state to PreCopy && has_pre_copy (shape_at D d).flags
-        && nat_lt 0 D.rounds && pass_count past == 0)
+    && nat_lt 0 D.rounds && pass_count past == 0)
     || is_held_for d to past
     || (same_state (state_of d past) Stop && same_state to StopCopy && is_decided D past)
