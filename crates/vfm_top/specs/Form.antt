@@ -1,0 +1,47 @@
+-- The forms of words that the top call answers.
+use Rattle.std.specs.Prelude.{ℕ, ◌==◌, ◌&&◌, not, Bool, true, false, nat_eq, List, [], ◌∷◌, length, codes, Option, Some, None, if◌then◌else◌, option_and_then}
+use Rattle.std.specs.Cmp.Lexicographic.{pointwise}
+use Rattle.vfm_types.specs.declared.state.MigState.{MigState}
+use Rattle.vfm_types.specs.declared.state.MigState.TheVariants.{Error, Stop, Running, StopCopy, Resuming, RunningP2p, PreCopy, PreCopyP2p}
+use Rattle.vfm_plain.specs.Text.{state_name}
+use Rattle.vfm_top.specs.declared.words.Form.{Form}
+use Rattle.vfm_top.specs.declared.words.Form.TheVariants.{Run, Paths}
+
+-- two texts are the same
+abbrev pub same_text : List ℕ → List ℕ → Bool
+same_text = pointwise nat_eq
+
+-- the state of this name
+abbrev pub state_named : List ℕ → Option MigState
+state_named word =
+    if same_text word (state_name Error) then Some Error else
+    (if same_text word (state_name Stop) then Some Stop else
+    (if same_text word (state_name Running) then Some Running else
+    (if same_text word (state_name StopCopy) then Some StopCopy else
+    (if same_text word (state_name Resuming) then Some Resuming else
+    (if same_text word (state_name RunningP2p) then Some RunningP2p else
+    (if same_text word (state_name PreCopy) then Some PreCopy else
+    (if same_text word (state_name PreCopyP2p) then Some PreCopyP2p else None)))))))
+
+-- the flags that this word writes: 1, 3, 5 or 7
+abbrev pub flags_named : List ℕ → Option ℕ
+flags_named word =
+    if same_text word (codes "1") then Some 1 else
+    (if same_text word (codes "3") then Some 3 else
+    (if same_text word (codes "5") then Some 5 else
+    (if same_text word (codes "7") then Some 7 else None)))
+
+-- the form `paths FROM TO FLAGS`, where each of the three is one
+abbrev pub paths_form : Option MigState → Option MigState → Option ℕ → Option Form
+paths_form (Some from) (Some to) (Some flags) = Some (Paths from to flags)
+paths_form _ _ _ = None
+
+-- The form of these words, if they have one: `run FILE` with any word that isn't empty, or `paths FROM TO FLAGS`.
+abbrev pub form_of : List (List ℕ) → Option Form
+form_of [] = None
+form_of (command ∷ []) = None
+form_of (command ∷ file ∷ []) = if same_text command (codes "run") && not (length file == 0) then Some Run else None
+form_of (command ∷ from ∷ to ∷ []) = None
+form_of (command ∷ from ∷ to ∷ flags ∷ []) =
+    if same_text command (codes "paths") then paths_form (state_named from) (state_named to) (flags_named flags) else None
+form_of (command ∷ from ∷ to ∷ flags ∷ other ∷ words) = None

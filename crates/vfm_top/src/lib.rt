@@ -1,0 +1,7 @@
+//! The top call: words in, a report and a status out.
+#![tactic(auto)]
+
+mod status;
+mod words;
+
+pub use status::{Doubt, Section, Status, number};

@@ -1,0 +1,110 @@
+//! The forms of words.
+
+ghost use Rattle.std.specs.Prelude.{◌≡◌, ◌==◌, ℕ, List, map, string_bytes};
+ghost use Rattle.vfm_top.specs.Form.{same_text, state_named, flags_named, form_of};
+ghost use Rattle.vfm_top.specs.Form as spec;
+
+use vfm_types::{Flags, MigState};
+
+/// What the words ask for.
+#[derive(Clone, Copy, Debug, PartialEq, Eq)]
+pub enum Form {
+    /// `run FILE`: move the described machine.
+    Run,
+    /// `paths FROM TO FLAGS`: print the path between two states.
+    Paths {
+        from: MigState,
+        to: MigState,
+        flags: Flags,
+    },
+}
+
+/// Whether a word is this text.
+fn is_word(word: &String, text: &[u8]) -> bool
+    ensures { result ≡ same_text (string_bytes word.now) text.now }
+{
+    word.as_bytes() == text
+}
+
+/// The state of a name.
+fn state(word: &String) -> Option<MigState>
+    ensures { result ≡ state_named (string_bytes word.now) }
+{
+    if is_word(word, b"ERROR") {
+        return Some(MigState::Error);
+    }
+    if is_word(word, b"STOP") {
+        return Some(MigState::Stop);
+    }
+    if is_word(word, b"RUNNING") {
+        return Some(MigState::Running);
+    }
+    if is_word(word, b"STOP_COPY") {
+        return Some(MigState::StopCopy);
+    }
+    if is_word(word, b"RESUMING") {
+        return Some(MigState::Resuming);
+    }
+    if is_word(word, b"RUNNING_P2P") {
+        return Some(MigState::RunningP2p);
+    }
+    if is_word(word, b"PRE_COPY") {
+        return Some(MigState::PreCopy);
+    }
+    if is_word(word, b"PRE_COPY_P2P") {
+        return Some(MigState::PreCopyP2p);
+    }
+    None
+}
+
+/// The flags that a word writes.
+fn flags(word: &String) -> Option<Flags>
+    ensures { result ≡ flags_named (string_bytes word.now) }
+{
+    if is_word(word, b"1") {
+        return Flags::of(1);
+    }
+    if is_word(word, b"3") {
+        return Flags::of(3);
+    }
+    if is_word(word, b"5") {
+        return Flags::of(5);
+    }
+    if is_word(word, b"7") {
+        return Flags::of(7);
+    }
+    None
+}
+
+/// The form `paths FROM TO FLAGS`.
+fn paths(from: &String, to: &String, bits: &String) -> Option<Form>
+    ensures { result ≡ spec.paths_form (state_named (string_bytes from.now)) (state_named (string_bytes to.now)) (flags_named (string_bytes bits.now)) }
+{
+    match (state(from), state(to), flags(bits)) {
+        (Some(from), Some(to), Some(flags)) => Some(Form::Paths { from, to, flags }),
+        _ => None,
+    }
+}
+
+/// The form of the words, or `None` exactly where they have none.
+pub fn read_words(words: &[String]) -> Option<Form>
+    ensures { result ≡ form_of (map string_bytes words.now) }
+{
+    match words {
+        [command, file] => {
+            if is_word(command, b"run") && !file.is_empty() {
+                Some(Form::Run)
+            } else {
+                None
+            }
+        }
+        [command, from, to, bits] => {
+            if is_word(command, b"paths") {
+                paths(from, to, bits)
+            } else {
+                None
+            }
+        }
+        _ => None,
+    }
+}
