@@ -6,37 +6,28 @@ use std::io;
 use std::io::Print;
 
 /// Bytes that are no text in UTF-8, or that no line has.
+const BYTES: [(&str, &[u8]); 12] = [
+    ("no bytes", b""),
+    ("a byte order mark", b"\xEF\xBB\xBF{}"),
+    ("a lone byte FF", b"{\"a\":\"\xFF\"}"),
+    ("half a letter", b"{\"a\":\"\xC3\"}"),
+    ("a whole letter", b"{\"a\":\"\xC3\xA9\"}"),
+    ("half a surrogate pair", b"{\"a\":\"\xED\xA0\x80\"}"),
+    ("a tab in a text", b"{\"a\":\"\t\"}"),
+    ("a line end in a text", b"{\"a\":\"\n\"}"),
+    ("byte 1F in a text", b"{\"a\":\"\x1F\"}"),
+    ("byte 7F in a text", b"{\"a\":\"\x7F\"}"),
+    ("a zero behind", b"{}\x00"),
+    ("blanks round it", b" \t\r\n{ } \r\n\t "),
+];
+
+/// Tries these bytes.
 pub(crate) fn bytes(rt: &impl Print, alloc: Global) -> io::Result<()> {
-    println!(rt; "no bytes: {}", answer(alloc, b"")?)?;
-    println!(rt; "a byte order mark: {}", answer(alloc, b"\xEF\xBB\xBF{}")?)?;
-    println!(rt; "a lone byte FF: {}", answer(alloc, b"{\"a\":\"\xFF\"}")?)?;
-    println!(rt; "half a letter: {}", answer(alloc, b"{\"a\":\"\xC3\"}")?)?;
-    println!(rt;
-        "a whole letter: {}",
-        answer(alloc, b"{\"a\":\"\xC3\xA9\"}")?
-    )?;
-    println!(rt;
-        "half a surrogate pair: {}",
-        answer(alloc, b"{\"a\":\"\xED\xA0\x80\"}")?
-    )?;
-    println!(rt; "a tab in a text: {}", answer(alloc, b"{\"a\":\"\t\"}")?)?;
-    println!(rt;
-        "a line end in a text: {}",
-        answer(alloc, b"{\"a\":\"\n\"}")?
-    )?;
-    println!(rt;
-        "byte 1F in a text: {}",
-        answer(alloc, b"{\"a\":\"\x1F\"}")?
-    )?;
-    println!(rt;
-        "byte 7F in a text: {}",
-        answer(alloc, b"{\"a\":\"\x7F\"}")?
-    )?;
-    println!(rt; "a zero behind: {}", answer(alloc, b"{}\x00")?)?;
-    println!(rt;
-        "blanks round it: {}",
-        answer(alloc, b" \t\r\n{ } \r\n\t ")?
-    )
+    for (name, bytes) in &BYTES {
+        let found = answer(alloc, *bytes)?;
+        println!(rt; "{name}: {found}")?;
+    }
+    Ok(())
 }
 
 /// Lists in lists.
