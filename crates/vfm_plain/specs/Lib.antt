@@ -2,3 +2,8 @@ pub mod Rules
 pub mod Legal
 pub mod Clean
 pub mod Ended
+pub mod Shape
+pub mod Text
+pub mod StateText
+pub mod EntryText
+pub mod Report

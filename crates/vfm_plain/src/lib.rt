@@ -1,2 +1,14 @@
 //! The plain machine, which does one request at a time, and what a legal run of it is.
 #![tactic(auto)]
+
+mod engine;
+mod laws;
+mod plain;
+mod sheet;
+mod window;
+
+pub use laws::{
+    bells_stay_zero, doing_keeps_counts, doorbells_change_no_byte, machines_are_sound,
+    serial_without_requests, sound_machines_can_lose,
+};
+pub use plain::{NotEnabled, Plain};

@@ -1,5 +1,5 @@
 -- The faults of a description, found device by device and job by job.
-use Rattle.std.proofs.Common.{◌≡◌, ℕ, ◌+◌, ◌<◌, ◌≤◌, Bool, true, false, cond, ◌||◌, Option, Some, None, IsTrue, nat_eq, List, [], ◌∷◌, ◌++◌, length, get_or, take, drop, refl, sym, ap, ◌∙◌}
+use Rattle.std.proofs.Common.{◌≡◌, ℕ, ◌+◌, ◌<◌, ◌≤◌, Bool, true, false, cond, ◌||◌, Option, Some, None, IsTrue, nat_eq, nat_lt, List, [], ◌∷◌, ◌++◌, length, get_or, take, drop, refl, sym, ap, ◌∙◌}
 use Rattle.std.specs.List.{list_any, list_all}
 use Rattle.std.specs.Option.{option_or}
 use Rattle.std.proofs.lemmas.List.{at_drop_more, at_drop_all, take_more}
@@ -10,11 +10,11 @@ use Rattle.vfm_types.specs.declared.job.Job.{Job}
 use Rattle.vfm_types.specs.declared.desc.DevShape.{DevShape}
 use Rattle.vfm_types.specs.declared.desc.Desc.{Desc}
 use Rattle.vfm_types.specs.declared.fault.DescFault.{DescFault}
-use Rattle.vfm_types.specs.declared.fault.DescFault.TheVariants.{NameTwice, NeedsP2p}
+use Rattle.vfm_types.specs.declared.fault.DescFault.TheVariants.{NameTwice, Crosses, OwnBar, BellKind, NeedsP2p, NoMemory}
 use Rattle.vfm_types.specs.State.{has_p2p}
 use Rattle.vfm_types.specs.Desc.{device_count, shape_at}
 use Rattle.vfm_types.specs.Valid.{InRange, is_job_in_range}
-use Rattle.vfm_types.specs.DescFault.{name_twice, job_fault, jobs_fault, devices_fault, lacks_p2p}
+use Rattle.vfm_types.specs.DescFault.{name_twice, job_fault, jobs_fault, devices_fault, lacks_p2p, form_fault}
 
 -- the names of these devices, newest first, before the names given
 abbrev pub names_onto : List (List ℕ) → List DevShape → List (List ℕ)
@@ -95,3 +95,42 @@ list_all_one p xs i x within is all = true_from_ne_false (p x) (λ no. false≢t
 pub job_in_range : (D : Desc) (d : ℕ) (shape : DevShape) (j : ℕ) (job : Job) → InRange D → d < device_count D → shape ≡ shape_at D d → j < length shape.jobs → job ≡ get_or shape.jobs j job → IsTrue (is_job_in_range job)
 job_in_range D d shape j job ranges within is there here =
     list_all_one is_job_in_range shape.jobs j job there here (ap (λ (s : DevShape). list_all is_job_in_range s.jobs) is ∙ (ranges.devices d within).jobs)
+
+-- ---- no fault of a description's form is want of memory
+
+no_memory-cond : (b : Bool) (x y : Option DescFault) → (x ≡ Some NoMemory → ⊥) → (y ≡ Some NoMemory → ⊥) → cond b x y ≡ Some NoMemory → ⊥
+no_memory-cond true x y hx hy e = hx e
+no_memory-cond false x y hx hy e = hy e
+
+no_memory-or : (x y : Option DescFault) → (x ≡ Some NoMemory → ⊥) → (y ≡ Some NoMemory → ⊥) → option_or x y ≡ Some NoMemory → ⊥
+no_memory-or None y hx hy e = hy e
+no_memory-or (Some f) y hx hy e = hx e
+
+no_memory-name_twice : (names : List (List ℕ)) (d : ℕ) (shapes : List DevShape) → name_twice names d shapes ≡ Some NoMemory → ⊥
+no_memory-name_twice names d [] e = cc
+no_memory-name_twice names d (shape ∷ shapes) e =
+    no_memory-cond (list_any (pointwise nat_eq shape.name) names) (Some (NameTwice d)) (name_twice (shape.name ∷ names) (d + 1) shapes) (λ h. cc) (no_memory-name_twice (shape.name ∷ names) (d + 1) shapes) e
+
+no_memory-job_fault : (D : Desc) (d j : ℕ) (job : Job) → job_fault D d j job ≡ Some NoMemory → ⊥
+no_memory-job_fault D d j job =
+    no_memory-cond _ (Some (Crosses d j)) _ (λ h. cc) (no_memory-cond _ (Some (OwnBar d j)) _ (λ h. cc) (no_memory-cond _ (Some (BellKind d j)) None (λ h. cc) (λ h. cc)))
+
+no_memory-jobs_fault : (D : Desc) (d j : ℕ) (jobs : List Job) → jobs_fault D d j jobs ≡ Some NoMemory → ⊥
+no_memory-jobs_fault D d j [] e = cc
+no_memory-jobs_fault D d j (job ∷ jobs) e =
+    no_memory-or (job_fault D d j job) (jobs_fault D d (j + 1) jobs) (no_memory-job_fault D d j job) (no_memory-jobs_fault D d (j + 1) jobs) e
+
+no_memory-devices_fault : (D : Desc) (d : ℕ) (shapes : List DevShape) → devices_fault D d shapes ≡ Some NoMemory → ⊥
+no_memory-devices_fault D d [] e = cc
+no_memory-devices_fault D d (shape ∷ shapes) e =
+    no_memory-or (jobs_fault D d 0 shape.jobs) (devices_fault D (d + 1) shapes) (no_memory-jobs_fault D d 0 shape.jobs) (no_memory-devices_fault D (d + 1) shapes) e
+
+no_memory-lacks_p2p : (d : ℕ) (shapes : List DevShape) → lacks_p2p d shapes ≡ Some NoMemory → ⊥
+no_memory-lacks_p2p d [] e = cc
+no_memory-lacks_p2p d (shape ∷ shapes) e =
+    no_memory-cond (has_p2p shape.flags) (lacks_p2p (d + 1) shapes) (Some (NeedsP2p d)) (no_memory-lacks_p2p (d + 1) shapes) (λ h. cc) e
+
+pub no_memory-form_fault : (D : Desc) (fault : DescFault) → Some fault ≡ form_fault D → fault ≡ NoMemory → ⊥
+unfolding form_fault
+no_memory-form_fault D fault is e =
+    no_memory-or (name_twice [] 0 D.devices) _ (no_memory-name_twice [] 0 D.devices) (no_memory-or (devices_fault D 0 D.devices) _ (no_memory-devices_fault D 0 D.devices) (no_memory-cond (nat_lt 1 (device_count D)) (lacks_p2p 0 D.devices) None (no_memory-lacks_p2p 0 D.devices) (λ h. cc))) (sym is ∙ ap Some e)

@@ -220,37 +220,6 @@ no_bit word from rest j low =
     ∙ ap (λ (w : ℕ). bit_at w (j - from)) rest
     ∙ bit_at-zero (j - from)
 
--- no page from p on in one word more
-pub none_more : (words : List ℕ) (p k : ℕ) → ((j : ℕ) → p - 64 * k ≤ j → bit_at (get_or words k 0) j ≡ 0) → ((r : ℕ) → p ≤ r → r < 64 * k → page_bit words r ≡ false) → (r : ℕ) → p ≤ r → r < 64 * (k + 1) → page_bit words r ≡ false
-none_more words p k word before r low high = at (cases_lt r (64 * k))
-  where
-    at : (r < 64 * k) ⊎ (64 * k ≤ r) → page_bit words r ≡ false
-    at (inl h) = before r low h
-    at (inr h) =
-        let here : r / 64 ≡ k = omega arith in
-        ap (λ (j : ℕ). eqb (bit_at (get_or words j 0) (r % 64)) 1) here
-        ∙ ap (λ (x : ℕ). eqb x 1) (word (r % 64) (omega arith))
-
--- the bit of a word as a page
-pub bit_as_page : (words : List ℕ) (k bit x : ℕ) → bit < 64 → bit_at (get_or words k 0) bit ≡ x → page_bit words (64 * k + bit) ≡ eqb x 1
-bit_as_page words k bit x within e =
-    let word : (64 * k + bit) / 64 ≡ k = omega arith in
-    let place : (64 * k + bit) % 64 ≡ bit = omega arith in
-    ap (λ (j : ℕ). eqb (bit_at (get_or words j 0) ((64 * k + bit) % 64)) 1) word
-    ∙ ap (λ (i : ℕ). eqb (bit_at (get_or words k 0) i) 1) place
-    ∙ ap (λ (y : ℕ). eqb y 1) e
-
--- none before the first bit of a word, if none stands in the words before
-pub none_before : (words : List ℕ) (p k bit : ℕ) → ((j : ℕ) → p - 64 * k ≤ j → j < bit → bit_at (get_or words k 0) j ≡ 0) → bit < 64 → ((r : ℕ) → p ≤ r → r < 64 * k → page_bit words r ≡ false) → (r : ℕ) → p ≤ r → r < 64 * k + bit → page_bit words r ≡ false
-none_before words p k bit word within before r low high = at (cases_lt r (64 * k))
-  where
-    at : (r < 64 * k) ⊎ (64 * k ≤ r) → page_bit words r ≡ false
-    at (inl h) = before r low h
-    at (inr h) =
-        let here : r / 64 ≡ k = omega arith in
-        ap (λ (j : ℕ). eqb (bit_at (get_or words j 0) (r % 64)) 1) here
-        ∙ ap (λ (x : ℕ). eqb x 1) (word (r % 64) (omega arith) (omega arith))
-
 -- what a search of the words found is the least page of the set
 pub least_value : (words xs : List ℕ) (p : ℕ) (r : Option ℕ) → pages_of_words words ≡ xs → IfSome r (λ q. (p ≤ q) × (q < 1024) × (page_bit words q ≡ true)) → IfSome r (λ q. (s : ℕ) → p ≤ s → s < q → page_bit words s ≡ false) → IfNone r ((s : ℕ) → p ≤ s → s < 1024 → page_bit words s ≡ false) → r ≡ least_page_from xs p
 least_value words xs p None e found least none =

@@ -1,11 +1,11 @@
 //! The description of a machine and of its move.
 
-ghost use Rattle.std.specs.Prelude.{[], ◌≡◌, ◌≤◌, ◌<◌, ◌*◌, ◌^◌, ℕ, Some, None, List, IfOk, IfErr, MatchResult, IsTrue, nat_eq, take, length};
+ghost use Rattle.std.specs.Prelude.{[], ◌≡◌, ◌≢◌, ◌≤◌, ◌<◌, ◌*◌, ◌^◌, ℕ, Some, None, List, IfOk, IfErr, MatchResult, IsTrue, nat_eq, take, length};
 ghost use Rattle.std.specs.List.{list_any};
 ghost use Rattle.std.specs.Cmp.Lexicographic.{pointwise};
 ghost use Rattle.vfm_types.specs.Desc.{bar_bytes, device_count, shape_at};
 ghost use Rattle.vfm_types.specs.Region.{region_of};
-ghost use Rattle.vfm_types.specs.Job.{address_of, length_of};
+ghost use Rattle.vfm_types.specs.Job.{address_of, length_of, place_of, is_doorbell};
 ghost use Rattle.vfm_types.specs.declared.desc.Desc.{Desc};
 ghost use Rattle.vfm_types.specs.DescFault.{name_twice, spoils_bell, job_fault, jobs_fault, devices_fault, lacks_p2p, form_fault};
 ghost use Rattle.vfm_types.specs.Valid.{InRange, IsValid, is_job_in_range};
@@ -132,6 +132,7 @@ impl Desc {
         ensures cases { MatchResult result (λ d. form_fault desc ≡ None) (λ fault. form_fault desc ≡ Some fault) }
         ensures same { IfOk result (λ d. d ≡ desc) }
         ensures valid { IfOk result IsValid }
+        ensures no_memory { IfErr result (λ fault. fault ≢ DescFault.NoMemory) }
     {
         match desc.form_fault() {
             Some(fault) => Err(fault),
@@ -224,6 +225,30 @@ impl Desc {
         None
     }
 
+    /// Where a job of the description is aimed.
+    pub fn place_of(&self, job: &Job) -> Place
+        requires in_range { InRange self.now }
+        requires job { IsTrue (is_job_in_range job.now) }
+        ensures { result ≡ place_of self.now job.now }
+    {
+        match self.region_of(job.address(), job.length()) {
+            Some(place) => place,
+            None => Place {
+                region: Region::Page(0),
+                offset: 0,
+            },
+        }
+    }
+
+    /// Whether the job rings a doorbell.
+    pub fn is_doorbell(&self, job: &Job) -> bool
+        requires in_range { InRange self.now }
+        requires job { IsTrue (is_job_in_range job.now) }
+        ensures { result ≡ is_doorbell self.now job.now }
+    {
+        job.may_ring() && self.place_of(job).is_bell(job.length())
+    }
+
     /// An equal description.
     pub fn copy(&self) -> Result<Desc, NoMemory>
         ensures { IfOk result (λ copy. copy ≡ self.now) }
@@ -265,4 +290,52 @@ fn placed_job_fault(d: DeviceId, j: u32, job: &Job, place: &Place) -> Option<Des
         return Some(DescFault::BellKind { device, job: j });
     }
     None
+}
+
+#[cfg(test)]
+mod tests {
+    use super::*;
+    use crate::Bytes64;
+    use std::test::Fail;
+
+    #[test]
+    fn copies_a_description(rt: HostRuntime) -> Result<(), Fail> {
+        let alloc = rt.alloc();
+        let bytes = Bytes64::of(&[7, 0, 0, 0, 0, 0, 0, 0]).ok_or("bytes")?;
+        let jobs = vec![in alloc; Job::Write { at: 16, bytes }, Job::Read { at: 32, len: 5 }]?;
+        let queue = vec![in alloc; 1, 0, 1]?;
+        let shape = DevShape {
+            name: Name::of(b"nic_0").ok_or("name")?,
+            flags: Flags::of(3).ok_or("flags")?,
+            bar: 128,
+            window: 2,
+            tells: true,
+            budget: 5,
+            fails: 1,
+            jobs: Jobs::of(jobs),
+            queue: Queue::of(queue),
+        };
+        let shapes = vec![in alloc; shape]?;
+        let desc = Desc {
+            session: 9,
+            page: 64,
+            pages: 4,
+            channels: 2,
+            version: 1,
+            begin: 3,
+            rounds: 4,
+            threshold: 6,
+            devices: Shapes::of(shapes),
+        };
+        let copy = desc.copy()?;
+        assert_eq!(rt; copy.threshold, 6);
+        assert_eq!(rt; copy.devices.len(), 1);
+        let shape = copy.devices.at(0);
+        assert_eq!(rt; shape.name.bytes(), b"nic_0".as_slice());
+        assert_eq!(rt; shape.queue.as_slice(), [1, 0, 1].as_slice());
+        assert_eq!(rt; shape.jobs.len(), 2);
+        assert_eq!(rt; shape.jobs.at(0).length(), 8);
+        assert_eq!(rt; shape.jobs.at(1).address(), 32);
+        Ok(())
+    }
 }

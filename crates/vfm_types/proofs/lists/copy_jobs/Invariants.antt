@@ -1,3 +1,4 @@
+-- The jobs before this one are copied.
 use Rattle.std.proofs.Common.{◌≡◌, take}
 use Rattle.vfm_types.proofs.lists.copy_jobs.Given as goal
 

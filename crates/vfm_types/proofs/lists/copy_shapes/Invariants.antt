@@ -1,3 +1,4 @@
+-- The devices before this one are copied.
 use Rattle.std.proofs.Common.{◌≡◌, take}
 use Rattle.vfm_types.proofs.lists.copy_shapes.Given as goal
 

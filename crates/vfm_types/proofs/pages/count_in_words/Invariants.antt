@@ -1,3 +1,4 @@
+-- The total is the number of pages of the words before this one.
 use Rattle.std.proofs.Common.{◌≡◌, ◌*◌, length}
 use Rattle.vfm_types.specs.PageSet.{page_bit, passing}
 use Rattle.vfm_types.proofs.pages.count_in_words.Given as goal

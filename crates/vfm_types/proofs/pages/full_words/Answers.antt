@@ -1,3 +1,4 @@
+-- Low ones are the pages below a number.
 use Rattle.std.proofs.Common.{◌/◌, arith}
 use Rattle.vfm_types.proofs.PageWords.{page_bit_ones}
 use Rattle.vfm_types.proofs.pages.full_words.Goals as goal

@@ -1,3 +1,4 @@
+-- Each word before this one has the ones that are due.
 use Rattle.std.proofs.Common.{◌≡◌, ℕ, ◌*◌, ◌-◌, ◌^◌, ◌<◌, min, get_or, length}
 use Rattle.vfm_types.proofs.pages.full_words.Given as goal
 

@@ -1,3 +1,4 @@
+-- The words joined one by one.
 use Rattle.std.proofs.Common.{arith}
 use Rattle.vfm_types.proofs.PageWords.{page_bit_join_all}
 use Rattle.vfm_types.proofs.pages.join_words.Goals as goal

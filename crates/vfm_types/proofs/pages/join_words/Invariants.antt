@@ -1,3 +1,4 @@
+-- The words before this one are joined, the others as they were.
 use Rattle.std.proofs.Common.{◌≡◌, ℕ, ◌<◌, ◌≤◌, get_or}
 use Rattle.std.specs.Int.RustNames.{bit_or}
 use Rattle.vfm_types.proofs.pages.join_words.Given as goal

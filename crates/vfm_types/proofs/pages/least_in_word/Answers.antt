@@ -1,3 +1,4 @@
+-- The trailing zeros of what a shift leaves give the first bit.
 use Rattle.vfm_types.proofs.PageWords.{first_bit_found, first_bit_least, no_bit}
 use Rattle.vfm_types.proofs.pages.least_in_word.Goals as goal
 

@@ -1,3 +1,4 @@
+-- The words before this one have no bit from the place on.
 use Rattle.std.proofs.Common.{◌≡◌, ℕ, ◌*◌, ◌<◌, ◌≤◌, false}
 use Rattle.vfm_types.specs.PageSet.{page_bit}
 use Rattle.vfm_types.proofs.pages.least_in_words.Given as goal

@@ -1,3 +1,4 @@
+-- The devices before this one have sound jobs.
 use Rattle.std.proofs.Common.{◌≡◌, drop}
 use Rattle.vfm_types.specs.DescFault.{devices_fault}
 use Rattle.vfm_types.proofs.desc.Desc.devices_fault.Given as goal

@@ -1,3 +1,4 @@
+-- The jobs before this one are sound.
 use Rattle.std.proofs.Common.{◌≡◌, drop}
 use Rattle.vfm_types.specs.DescFault.{jobs_fault}
 use Rattle.vfm_types.proofs.desc.Desc.jobs_fault.Given as goal

@@ -1,3 +1,4 @@
+-- One device more in the walk over the flags.
 use Rattle.std.proofs.Common.{sym, ◌∙◌, arith}
 use Rattle.vfm_types.proofs.FormFault.{lacks_p2p_more, lacks_p2p_found}
 use Rattle.vfm_types.proofs.desc.Desc.lacks_p2p.Goals as goal

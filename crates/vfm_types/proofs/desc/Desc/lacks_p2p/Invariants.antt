@@ -1,3 +1,4 @@
+-- The devices before this one have the peer-to-peer states.
 use Rattle.std.proofs.Common.{◌≡◌, drop}
 use Rattle.vfm_types.specs.DescFault.{lacks_p2p}
 use Rattle.vfm_types.proofs.desc.Desc.lacks_p2p.Given as goal

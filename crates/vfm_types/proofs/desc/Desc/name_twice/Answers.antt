@@ -1,3 +1,4 @@
+-- One device more in the walk over the names.
 use Rattle.std.proofs.Common.{length, sym, ap, ◌∙◌, arith}
 use Rattle.vfm_types.proofs.FormFault.{name_twice_more, name_twice_found}
 use Rattle.vfm_types.proofs.desc.Desc.name_twice.Goals as goal

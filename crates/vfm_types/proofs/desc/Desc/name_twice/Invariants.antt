@@ -1,3 +1,4 @@
+-- The devices before this one have names that differ.
 use Rattle.std.proofs.Common.{◌≡◌, [], take, drop}
 use Rattle.vfm_types.specs.DescFault.{name_twice}
 use Rattle.vfm_types.proofs.FormFault.{names_onto}

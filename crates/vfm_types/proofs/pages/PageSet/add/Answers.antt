@@ -1,3 +1,4 @@
+-- One bit set adds its page and no other.
 use Rattle.std.proofs.Common.{arith}
 use Rattle.vfm_types.proofs.Passing.{IsPageList-pages_where}
 use Rattle.vfm_types.proofs.PageWords.{added, added_members}

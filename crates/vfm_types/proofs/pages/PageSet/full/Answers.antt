@@ -1,3 +1,4 @@
+-- The bits below a number are the pages below it.
 use Rattle.vfm_types.proofs.Passing.{IsPageList-pages_where}
 use Rattle.vfm_types.proofs.PageWords.{full_list, full_members}
 use Rattle.vfm_types.proofs.pages.PageSet.full.Goals as goal

@@ -1,3 +1,4 @@
+-- The bit of a page tells whether the set has it.
 use Rattle.vfm_types.proofs.PageWords.{bit_of_page, set_of_words}
 use Rattle.vfm_types.proofs.pages.PageSet.has.Goals as goal
 

@@ -1,3 +1,4 @@
+-- Words joined bit by bit hold the pages of both sets.
 use Rattle.vfm_types.proofs.Passing.{IsPageList-pages_where}
 use Rattle.vfm_types.proofs.PageWords.{joined, joined_members}
 use Rattle.vfm_types.proofs.pages.PageSet.join.Goals as goal

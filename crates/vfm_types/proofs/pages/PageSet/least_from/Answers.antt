@@ -1,3 +1,4 @@
+-- The first bit that is set is the least page.
 use Rattle.vfm_types.proofs.PageWords.{set_of_words, least_value, least_found, least_least, least_none}
 use Rattle.vfm_types.proofs.pages.PageSet.least_from.Goals as goal
 

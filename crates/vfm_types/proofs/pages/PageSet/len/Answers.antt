@@ -1,3 +1,4 @@
+-- What words hold is a set of pages.
 use Rattle.vfm_types.proofs.PageWords.{set_of_words}
 use Rattle.vfm_types.proofs.pages.PageSet.len.Goals as goal
 

@@ -1,3 +1,4 @@
+-- Words of zeros hold no page.
 use Rattle.std.proofs.Common.{replicate}
 use Rattle.vfm_types.specs.PageSet.{page_bit}
 use Rattle.vfm_types.proofs.Passing.{IsPageList-pages_where}

@@ -1,0 +1,6 @@
+-- A fault of the form is never want of memory.
+use Rattle.vfm_types.proofs.FormFault.{no_memory-form_fault}
+use Rattle.vfm_types.proofs.desc.Desc.new.Goals as goal
+
+pub returns-in-Some-clause-no_memory : goal.returns-in-Some-clause-no_memory
+returns-in-Some-clause-no_memory c = no_memory-form_fault c.args.desc c.in-Some.fault c.in-Some.ensures
