@@ -1,0 +1,4 @@
+pub mod Ranges
+pub mod Built
+pub mod Reading
+pub mod Described
