@@ -55,6 +55,13 @@ impl Gather {
         self.len = end;
     }
 
+    /// What is gathered.
+    pub fn as_slice(&self) -> &[u8]
+        ensures { result.now ≡ self.now }
+    {
+        &self.bytes[..self.len]
+    }
+
     /// Writes all that is gathered, and begins anew.
     pub fn flush<S: Sink>(&mut self, out: &mut S) -> Result<(), Failed>
         ensures count { CountsFaults result (S.faults out.old) (S.faults out.new) }
@@ -62,7 +69,7 @@ impl Gather {
         ensures empty { OnOk result (self.new ≡ []) }
         ensures failed { OnErr result ((n : ℕ) × (n < length self.old) × (S.holds out.new ≡ told_then (S.holds out.old) (take n self.old))) }
     {
-        write_all(out, &self.bytes[..self.len])?;
+        write_all(out, self.as_slice())?;
         self.len = 0;
         Ok(())
     }

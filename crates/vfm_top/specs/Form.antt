@@ -1,5 +1,5 @@
 -- The forms of words that the top call answers.
-use Rattle.std.specs.Prelude.{ℕ, ◌==◌, ◌&&◌, not, Bool, true, false, nat_eq, List, [], ◌∷◌, length, codes, Option, Some, None, if◌then◌else◌, option_and_then}
+use Rattle.std.specs.Prelude.{ℕ, ◌==◌, Bool, nat_eq, List, [], ◌∷◌, length, codes, Option, Some, None, if◌then◌else◌}
 use Rattle.std.specs.Cmp.Lexicographic.{pointwise}
 use Rattle.vfm_types.specs.declared.state.MigState.{MigState}
 use Rattle.vfm_types.specs.declared.state.MigState.TheVariants.{Error, Stop, Running, StopCopy, Resuming, RunningP2p, PreCopy, PreCopyP2p}
@@ -36,11 +36,15 @@ abbrev pub paths_form : Option MigState → Option MigState → Option ℕ → O
 paths_form (Some from) (Some to) (Some flags) = Some (Paths from to flags)
 paths_form _ _ _ = None
 
--- The form of these words, if they have one: `run FILE` with any word that isn't empty, or `paths FROM TO FLAGS`.
+-- the form `run FILE`, with any word that isn't empty
+abbrev pub run_form : List ℕ → List ℕ → Option Form
+run_form command file = if same_text command (codes "run") then (if length file == 0 then None else Some Run) else None
+
+-- The form of these words, if they have one: `run FILE` or `paths FROM TO FLAGS`.
 abbrev pub form_of : List (List ℕ) → Option Form
 form_of [] = None
 form_of (command ∷ []) = None
-form_of (command ∷ file ∷ []) = if same_text command (codes "run") && not (length file == 0) then Some Run else None
+form_of (command ∷ file ∷ []) = run_form command file
 form_of (command ∷ from ∷ to ∷ []) = None
 form_of (command ∷ from ∷ to ∷ flags ∷ []) =
     if same_text command (codes "paths") then paths_form (state_named from) (state_named to) (flags_named flags) else None

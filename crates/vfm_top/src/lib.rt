@@ -1,6 +1,7 @@
 //! The top call: words in, a report and a status out.
 #![tactic(auto)]
 
+mod line;
 mod status;
 mod words;
 

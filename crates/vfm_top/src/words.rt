@@ -1,6 +1,6 @@
 //! The forms of words.
 
-ghost use Rattle.std.specs.Prelude.{◌≡◌, ◌==◌, ℕ, List, map, string_bytes};
+ghost use Rattle.std.specs.Prelude.{◌≡◌, map, string_bytes};
 ghost use Rattle.vfm_top.specs.Form.{same_text, state_named, flags_named, form_of};
 ghost use Rattle.vfm_top.specs.Form as spec;
 
@@ -76,6 +76,19 @@ fn flags(word: &String) -> Option<Flags>
     None
 }
 
+/// The form `run FILE`.
+fn run(command: &String, file: &String) -> Option<Form>
+    ensures { result ≡ spec.run_form (string_bytes command.now) (string_bytes file.now) }
+{
+    if !is_word(command, b"run") {
+        return None;
+    }
+    if file.is_empty() {
+        return None;
+    }
+    Some(Form::Run)
+}
+
 /// The form `paths FROM TO FLAGS`.
 fn paths(from: &String, to: &String, bits: &String) -> Option<Form>
     ensures { result ≡ spec.paths_form (state_named (string_bytes from.now)) (state_named (string_bytes to.now)) (flags_named (string_bytes bits.now)) }
@@ -90,21 +103,15 @@ fn paths(from: &String, to: &String, bits: &String) -> Option<Form>
 pub fn read_words(words: &[String]) -> Option<Form>
     ensures { result ≡ form_of (map string_bytes words.now) }
 {
-    match words {
-        [command, file] => {
-            if is_word(command, b"run") && !file.is_empty() {
-                Some(Form::Run)
-            } else {
-                None
-            }
-        }
-        [command, from, to, bits] => {
-            if is_word(command, b"paths") {
-                paths(from, to, bits)
-            } else {
-                None
-            }
-        }
-        _ => None,
+    if words.len() == 2 {
+        return run(&words[0], &words[1]);
     }
+    if words.len() == 4 {
+        return if is_word(&words[0], b"paths") {
+            paths(&words[1], &words[2], &words[3])
+        } else {
+            None
+        };
+    }
+    None
 }
