@@ -1,14 +1,21 @@
-//! Worked cases of the definitions, each checked by computation: a function without a body whose clause holds by
-//! itself.
+//! Worked cases of the definitions, each checked by computation: functions without a body whose clauses hold by
+//! themselves. Journals are given to `broken` oldest first, and to every fact newest first.
 #![tactic(auto)]
 
-ghost use Rattle.std.specs.Prelude.{◌≡◌, None, Some};
-ghost use Rattle.vfm_plain.specs.Legal.{broken};
-ghost use Rattle.vfm_cases.specs.One.{one, one_source, one_joined};
-
-/// The journal of a machine with one device and one write is legal, the source's followed by the destination's.
-pub fn one_device_is_legal()
-    ensures source { broken one one_source ≡ None }
-    ensures joined { broken one one_joined ≡ None }
-{
-}
+pub mod blocks;
+pub mod changed;
+pub mod clean;
+pub mod descriptions;
+pub mod given_up;
+pub mod large;
+pub mod marks;
+pub mod paths;
+pub mod plain;
+pub mod refused_arcs;
+pub mod refused_copying;
+pub mod refused_phases;
+pub mod refused_requests;
+pub mod runs;
+pub mod schedules;
+pub mod states;
+pub mod texts;

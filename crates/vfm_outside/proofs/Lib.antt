@@ -1,1 +1,3 @@
+pub mod EndsLemmas
+pub mod MemoryLemmas
 pub mod ToldLemmas

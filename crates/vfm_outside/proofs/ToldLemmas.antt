@@ -1,6 +1,6 @@
 -- Steps of the loops that write all bytes, and read up to a bound.
 use Rattle.std.specs.Prelude.{Result, Ok, Err, OnErr}
-use Rattle.std.proofs.Common.{◌≡◌, ◌∙◌, sym, ap, ℕ, ◌+◌, ◌-◌, ◌<◌, ◌≤◌, Option, Some, None, IfSome, List, [], ◌∷◌, ◌++◌, length, take, drop, arith, subst, append-nil}
+use Rattle.std.proofs.Common.{◌≡◌, ◌∙◌, sym, ap, ℕ, ◌+◌, ◌-◌, ◌≤◌, Option, Some, None, IfSome, List, ◌++◌, length, take, drop, arith, subst, append-nil}
 use Rattle.std.proofs.lemmas.List.{take-append-drop, take-take, drop-take, take_at, take_all, take_rest}
 use Rattle.vfm_outside.specs.Told.{told_then, then_told, TellsNone, told_then-told_then, then_told-then_told}
 

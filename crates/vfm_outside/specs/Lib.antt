@@ -1,4 +1,6 @@
 pub mod Carried
 pub mod Counts
 pub mod Links
+pub mod Script
+pub mod ScriptEnds
 pub mod Told

@@ -1,5 +1,5 @@
 -- What links tell, one by one and all those of two ends.
-use Rattle.std.specs.Prelude.{◌≡◌, ℕ, ◌+◌, ◌==◌, ◌&&◌, ◌||◌, nat_lt, Bool, true, false, Option, Some, None, Result, Ok, Err, List, [], ◌∷◌, map, length, All, sum_by}
+use Rattle.std.specs.Prelude.{◌≡◌, ℕ, ◌+◌, ◌==◌, ◌&&◌, ◌||◌, nat_lt, Bool, false, Option, Result, Ok, Err, List, length, All, sum_by}
 use Rattle.vfm_outside.specs.Told.{TellsNone}
 
 -- whether the end has been received after a receipt that gave so many bytes into a buffer with this room

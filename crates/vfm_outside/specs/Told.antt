@@ -1,5 +1,5 @@
 -- Lists of bytes that an object may tell: `None` stands for one that doesn't tell, and no call changes that.
-use Rattle.std.specs.Prelude.{◌≡◌, ℕ, ◌<◌, ◌≤◌, Option, Some, None, IfSome, Result, Ok, Err, MatchResult, List, [], ◌∷◌, ◌++◌, length, take, drop, refl}
+use Rattle.std.specs.Prelude.{◌≡◌, ℕ, ◌<◌, ◌≤◌, Option, Some, None, IfSome, Result, MatchResult, List, [], ◌++◌, length, take, refl}
 use Rattle.std.proofs.Common.{ap, sym, append_assoc, append-nil}
 
 -- what was told, with these bytes behind it

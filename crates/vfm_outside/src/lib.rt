@@ -5,6 +5,11 @@
 mod beat;
 mod failed;
 mod link;
+mod mem_sink;
+mod mem_source;
+mod script;
+mod script_link;
+mod script_wires;
 mod sink;
 mod source;
 mod wires;
@@ -12,6 +17,13 @@ mod wires;
 pub use beat::{Beat, NoBeat};
 pub use failed::{Failed, ReadFault};
 pub use link::Link;
+pub use mem_sink::MemSink;
+pub use mem_source::MemSource;
+pub use script_link::ScriptLink;
+pub use script_wires::ScriptWires;
 pub use sink::{Sink, write_all};
 pub use source::{Source, read_up_to};
 pub use wires::{ConnectFault, Ends, Wires};
+
+#[cfg(test)]
+mod tests;

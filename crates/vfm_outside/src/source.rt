@@ -1,6 +1,6 @@
 //! What gives bytes, and the loop that reads up to a bound.
 
-ghost use Rattle.std.specs.Prelude.{◌≡◌, ℕ, ◌≤◌, List, Option, Ok, length, vec_len, IfOk, OnOk, OnErr, IfSome, take, drop, IsErrOf};
+ghost use Rattle.std.specs.Prelude.{◌≡◌, ℕ, ◌≤◌, List, Option, Ok, length, vec_len, IfOk, OnOk, OnErr, IfSome, take, IsErrOf};
 ghost use Rattle.vfm_outside.specs.Counts.{Rose};
 ghost use Rattle.vfm_outside.specs.Counts.{CountsFaults};
 ghost use Rattle.vfm_outside.specs.Told.{then_told, Reads};

@@ -3,3 +3,7 @@ pub mod Legal
 pub mod Clean
 pub mod Ended
 pub mod Shape
+pub mod Text
+pub mod StateText
+pub mod EntryText
+pub mod Report

@@ -291,3 +291,51 @@ fn placed_job_fault(d: DeviceId, j: u32, job: &Job, place: &Place) -> Option<Des
     }
     None
 }
+
+#[cfg(test)]
+mod tests {
+    use super::*;
+    use crate::Bytes64;
+    use std::test::Fail;
+
+    #[test]
+    fn copies_a_description(rt: HostRuntime) -> Result<(), Fail> {
+        let alloc = rt.alloc();
+        let bytes = Bytes64::of(&[7, 0, 0, 0, 0, 0, 0, 0]).ok_or("bytes")?;
+        let jobs = vec![in alloc; Job::Write { at: 16, bytes }, Job::Read { at: 32, len: 5 }]?;
+        let queue = vec![in alloc; 1, 0, 1]?;
+        let shape = DevShape {
+            name: Name::of(b"nic_0").ok_or("name")?,
+            flags: Flags::of(3).ok_or("flags")?,
+            bar: 128,
+            window: 2,
+            tells: true,
+            budget: 5,
+            fails: 1,
+            jobs: Jobs::of(jobs),
+            queue: Queue::of(queue),
+        };
+        let shapes = vec![in alloc; shape]?;
+        let desc = Desc {
+            session: 9,
+            page: 64,
+            pages: 4,
+            channels: 2,
+            version: 1,
+            begin: 3,
+            rounds: 4,
+            threshold: 6,
+            devices: Shapes::of(shapes),
+        };
+        let copy = desc.copy()?;
+        assert_eq!(rt; copy.threshold, 6);
+        assert_eq!(rt; copy.devices.len(), 1);
+        let shape = copy.devices.at(0);
+        assert_eq!(rt; shape.name.bytes(), b"nic_0".as_slice());
+        assert_eq!(rt; shape.queue.as_slice(), [1, 0, 1].as_slice());
+        assert_eq!(rt; shape.jobs.len(), 2);
+        assert_eq!(rt; shape.jobs.at(0).length(), 8);
+        assert_eq!(rt; shape.jobs.at(1).address(), 32);
+        Ok(())
+    }
+}

@@ -1,0 +1,102 @@
+//! A list of entries whose room is taken once, so that no later entry can want memory.
+
+ghost use Rattle.std.specs.Prelude.{◌≡◌, ℕ, ◌<◌, ◌≤◌, ◌^◌, ◌↔◌, List, [], ◌∷◌, ◌++◌, length, Some, slice_get, IfOk, IsTrue};
+ghost use Rattle.vfm_types.specs.declared.entry.Entry.{Entry as Item};
+
+use std::alloc::Global;
+use std::marker::Model;
+use vfm_types::{Entry, NoMemory};
+
+const _: () = prove!(size_of::<Entry>() <= 16);
+
+/// The entries that were made, oldest first, and how many there is room for.
+#[derive(Debug, Drop)]
+pub struct Journal {
+    entries: Vec<Entry>,
+    room: usize,
+}
+
+impl Model for Journal {
+    ghost use Rattle.std.specs.Prelude.{ℕ, ◌≤◌, ◌^◌, ◌<◌, vec_len, vec_capacity};
+    ghost use Rattle.vfm_journal.specs.Log.{Log};
+
+    ghost Value = { Log };
+
+    ghost view = { λ j. record { entries = j.entries.items; room = j.room } };
+
+    ghost invariant = { λ j. (vec_len j.entries ≤ j.room) × (j.room ≤ vec_capacity j.entries) };
+}
+
+impl Journal {
+    /// An empty journal with room for `n` entries, all of which is taken here.
+    pub fn with_room(alloc: Global, n: u64) -> Result<Journal, NoMemory>
+        ensures entries { IfOk result (λ journal. journal.entries ≡ []) }
+        ensures room { IfOk result (λ journal. journal.room ≡ n) }
+    {
+        let room = n as usize;
+        Ok(Journal {
+            entries: Vec::with_capacity(alloc, room)?,
+            room,
+        })
+    }
+
+    /// Adds an entry behind the others.
+    pub fn push(&mut self, entry: Entry)
+        requires { length self.old.entries < self.old.room }
+        ensures entries { self.new.entries ≡ self.old.entries ++ entry ∷ [] }
+        ensures room { self.new.room ≡ self.old.room }
+    {
+        self.entries.push_reserved(entry);
+    }
+
+    /// How many entries there are.
+    pub fn len(&self) -> u64
+        ensures { result ≡ length self.now.entries }
+    {
+        self.entries.len() as u64
+    }
+
+    /// Whether there is none.
+    pub fn is_empty(&self) -> bool
+        ensures { IsTrue result ↔ (self.now.entries ≡ []) }
+    {
+        self.entries.is_empty()
+    }
+
+    /// The entry at place `i`, counted from 0.
+    pub fn at(&self, i: u64) -> Entry
+        requires { i < length self.now.entries }
+        ensures { slice_get self.now.entries i ≡ Some result }
+    {
+        self.entries[i as usize]
+    }
+
+    /// All entries, oldest first.
+    pub fn as_slice(&self) -> &[Entry]
+        ensures { result.now ≡ self.now.entries }
+    {
+        self.entries.as_slice()
+    }
+}
+
+#[cfg(test)]
+mod tests {
+    use super::*;
+    use std::test::Fail;
+    use vfm_types::DeviceId;
+
+    #[test]
+    fn keeps_entries_in_order(rt: HostRuntime) -> Result<(), Fail> {
+        let mut journal = Journal::with_room(rt.alloc(), 2)?;
+        let issue = Entry::Issue {
+            d: DeviceId(3),
+            n: 7,
+        };
+        journal.push(issue);
+        journal.push(Entry::Begin);
+        assert!(rt; journal.len() == 2);
+        assert!(rt; journal.at(0) == issue);
+        assert!(rt; journal.at(1) == Entry::Begin);
+        Ok(())
+    }
+}

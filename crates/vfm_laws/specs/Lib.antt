@@ -1,0 +1,4 @@
+pub mod Queues
+pub mod Standing
+pub mod Faults
+pub mod Runs

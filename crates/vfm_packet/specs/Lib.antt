@@ -1,0 +1,8 @@
+pub mod Header
+pub mod Sound
+pub mod Packet
+pub mod Answer
+pub mod Channel
+pub mod Refusal
+pub mod Reading
+pub mod Worked

@@ -1,0 +1,171 @@
+//! Reading the packet at the front of some bytes.
+
+ghost use Rattle.std.specs.Prelude.{◌≡◌, ◌+◌, ◌≤◌, ◌↔◌, ℕ, length, MatchResult, Some, None};
+ghost use Rattle.std.specs.Int.{w16, w32, w64};
+ghost use Rattle.vfm_packet.specs.Header.{carries};
+ghost use Rattle.vfm_packet.specs.Sound.{word_at, head_at, head_fault, knows_stream, has_length, has_zeros};
+ghost use Rattle.vfm_packet.specs.Packet.{packet_size};
+ghost use Rattle.vfm_packet.specs.Answer.{decoded, BeginsWith, IsPartial, HasNoHeader};
+ghost use Rattle.vfm_packet.specs.declared.header.Header.{Header};
+ghost use Rattle.vfm_packet.specs.declared.answer.Cause.{Cause};
+
+use crate::answer::{Cause, Decoded, Expect};
+use crate::header::{HEAD_LEN, Header, Kind, PAYLOAD_LIMIT, packet_size};
+
+/// The first four bytes of a header, `VFMD`, as a number.
+const MAGIC: u32 = 0x5646_4d44;
+
+// The number at a place of a header, its highest byte first.
+#[tactic(auto, unfolding(crate::specs::Sound::word_at))]
+fn u16_at(bytes: &[u8], place: usize) -> u16
+    requires { place + 2 ≤ length bytes.now }
+    ensures { result ≡ word_at w16 place bytes.now }
+{
+    let b = &bytes[place..place + 2];
+    u16::from_be_bytes([b[0], b[1]])
+}
+
+#[tactic(auto, unfolding(crate::specs::Sound::word_at))]
+fn u32_at(bytes: &[u8], place: usize) -> u32
+    requires { place + 4 ≤ length bytes.now }
+    ensures { result ≡ word_at w32 place bytes.now }
+{
+    let b = &bytes[place..place + 4];
+    u32::from_be_bytes([b[0], b[1], b[2], b[3]])
+}
+
+#[tactic(auto, unfolding(crate::specs::Sound::word_at))]
+fn u64_at(bytes: &[u8], place: usize) -> u64
+    requires { place + 8 ≤ length bytes.now }
+    ensures { result ≡ word_at w64 place bytes.now }
+{
+    let b = &bytes[place..place + 8];
+    u64::from_be_bytes([b[0], b[1], b[2], b[3], b[4], b[5], b[6], b[7]])
+}
+
+// Whether a packet of this kind carries a payload.
+fn carries(kind: Kind) -> bool
+    ensures { result ≡ carries kind }
+{
+    match kind {
+        Kind::Data | Kind::Config => true,
+        Kind::End | Kind::Abort => false,
+    }
+}
+
+// Whether there is a stream of the number, where the packet is of a stream.
+fn knows_stream(head: &Header, expect: &Expect) -> bool
+    ensures { result ≡ knows_stream (carries head.now.kind) expect.now head.now }
+{
+    if carries(head.kind) {
+        head.stream < expect.streams
+    } else {
+        true
+    }
+}
+
+// Whether a payload can have this length, where there is one.
+fn has_length(head: &Header) -> bool
+    ensures { result ≡ has_length (carries head.now.kind) head.now }
+{
+    if carries(head.kind) {
+        0 < head.length && head.length <= PAYLOAD_LIMIT
+    } else {
+        true
+    }
+}
+
+// Whether what a packet without payload has no use for is zero.
+fn has_zeros(head: &Header) -> bool
+    ensures { result ≡ has_zeros (carries head.now.kind) head.now }
+{
+    if carries(head.kind) {
+        true
+    } else {
+        head.stream == 0 && head.index == 0 && head.length == 0
+    }
+}
+
+// The header that stands at the front, with this version and kind.
+fn header_at(version: u16, kind: Kind, bytes: &[u8]) -> Header
+    requires { 40 ≤ length bytes.now }
+    ensures { result ≡ record (head_at bytes.now) { version = version; kind = kind } }
+{
+    Header {
+        version,
+        kind,
+        session: u64_at(bytes, 8),
+        stream: u32_at(bytes, 16),
+        index: u32_at(bytes, 20),
+        length: u32_at(bytes, 24),
+    }
+}
+
+// The sound header at the front, or why there is none.
+#[tactic(auto, unfolding(crate::specs::Sound::head_fault))]
+fn sound_head(bytes: &[u8], expect: &Expect) -> Result<Header, Cause>
+    requires { 40 ≤ length bytes.now }
+    ensures { MatchResult result
+        (λ head. (head_fault expect.now bytes.now ≡ None) × (head ≡ head_at bytes.now))
+        (λ cause. head_fault expect.now bytes.now ≡ Some cause) }
+{
+    if u32_at(bytes, 0) != MAGIC {
+        return Err(Cause::Magic);
+    }
+    let version = u16_at(bytes, 4);
+    if version != expect.version {
+        return Err(Cause::Version);
+    }
+    let kind = match Kind::of_number(u16_at(bytes, 6)) {
+        Some(kind) => kind,
+        None => return Err(Cause::Kind),
+    };
+    let head = header_at(version, kind, bytes);
+    if head.session != expect.session || !knows_stream(&head, expect) {
+        return Err(Cause::Foreign);
+    }
+    if !has_length(&head) {
+        return Err(Cause::Length);
+    }
+    if u64_at(bytes, 28) != 0 || u32_at(bytes, 36) != 0 || !has_zeros(&head) {
+        return Err(Cause::Spare);
+    }
+    Ok(head)
+}
+
+// The answer by the tests in their order.
+#[tactic(auto, unfolding(crate::specs::Answer::decoded))]
+fn answer(bytes: &[u8], expect: &Expect) -> Decoded
+    ensures { result ≡ decoded expect.now bytes.now }
+{
+    if bytes.len() < HEAD_LEN {
+        return Decoded::More;
+    }
+    match sound_head(bytes, expect) {
+        Ok(head) => {
+            let used = packet_size(&head);
+            if bytes.len() < used {
+                Decoded::More
+            } else {
+                Decoded::Packet { head, used }
+            }
+        }
+        Err(cause) => Decoded::Bad { cause },
+    }
+}
+
+/// What stands at the front of the bytes: a whole packet, less than one, or 40 bytes that are no sound header.
+/// What follows a packet isn't looked at, and no memory is taken.
+pub fn decode(bytes: &[u8], expect: &Expect) -> Decoded
+    // Exactly a sound header with all that it announces is a packet.
+    ensures packet { (head : Header) (used : ℕ) → (result ≡ Decoded.Packet head used)
+        ↔ (BeginsWith expect.now bytes.now head × (used ≡ packet_size head)) }
+    // Fewer than 40 bytes, or a sound header that announces more than there is, ask for more.
+    ensures more { (result ≡ Decoded.More) ↔ IsPartial expect.now bytes.now }
+    // 40 bytes that spell no sound header are refused, for the first test of the order that fails.
+    ensures bad { (cause : Cause) → (result ≡ Decoded.Bad cause)
+        ↔ (HasNoHeader expect.now bytes.now × (head_fault expect.now bytes.now ≡ Some cause)) }
+    ensures exact { result ≡ decoded expect.now bytes.now }
+{
+    answer(bytes, expect)
+}

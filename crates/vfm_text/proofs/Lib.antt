@@ -1,0 +1,4 @@
+pub mod Parts
+pub mod Flushing
+pub mod ReportParts
+pub mod Printing

@@ -1,0 +1,19 @@
+-- The title, and then the journal.
+use Rattle.std.proofs.Common.{[], ◌∷◌}
+use Rattle.std.specs.Prelude.{codes}
+use Rattle.std.proofs.lemmas.Result.{err_from_is_err_and, MatchResult-weaker}
+use Rattle.vfm_plain.specs.Text.{line}
+use Rattle.vfm_plain.specs.EntryText.{journal_text}
+use Rattle.vfm_text.proofs.report.put_journal_part.Goals as goal
+
+pub returns-in_err-put_line : goal.returns-in_err-put_line
+returns-in_err-put_line g c =
+    let p = err_from_is_err_and c.from_residual.result c.from_residual.ensures.1 in
+    rw (p.1) (g.met.P.Pen.stop_before _ _ (line (codes "journal") (c.args.title.now ∷ [])) (journal_text c.args.journal.now.entries) c.in_err-put_line.ensures)
+
+pub returns : goal.returns
+returns g c =
+    let pen = g.met.P.Pen in
+    MatchResult-weaker c.put_journal.result c.put_journal.ensures
+    (λ _ h. pen.more _ _ _ (line (codes "journal") (c.args.title.now ∷ [])) (journal_text c.args.journal.now.entries) c.in_ok-put_line.ensures h)
+    (λ _ h. pen.stop_after _ _ _ (line (codes "journal") (c.args.title.now ∷ [])) (journal_text c.args.journal.now.entries) c.in_ok-put_line.ensures h)
