@@ -1,5 +1,5 @@
 -- What an effect leaves of each device, and what each machine that comes of a description has.
-use Rattle.std.proofs.Common.{◌≡◌, ℕ, suc, zero, ◌+◌, ◌-◌, ◌*◌, ◌<◌, ◌≤◌, ◌==◌, ◌&&◌, ◌||◌, not, Bool, true, false, if◌then◌else◌, nat_lt, IsTrue, List, [], ◌∷◌, ◌++◌, length, map, take, drop, replicate, remove, slice_index_or, slice_set, filter, ap₂, Option, Some, None, ◌⊎◌, inl, inr, refl, sym, ap, ◌∙◌, subst, arith}
+use Rattle.std.proofs.Common.{◌≡◌, ℕ, suc, zero, ◌+◌, ◌<◌, ◌≤◌, ◌==◌, ◌&&◌, ◌||◌, not, Bool, true, false, if◌then◌else◌, nat_lt, IsTrue, List, [], ◌∷◌, ◌++◌, length, map, take, drop, replicate, remove, slice_index_or, filter, ap₂, Some, None, ◌⊎◌, inl, inr, refl, sym, ap, ◌∙◌, subst, arith}
 use Rattle.std.specs.List.{All, sum_by, list_all}
 use Rattle.std.specs.Int.{w64, from_le_bytes}
 use Rattle.std.proofs.lemmas.Bool.{false≢true, ltb-true, leb-true, ltb-false, cases_lt}
@@ -13,13 +13,13 @@ use Rattle.vfm_types.specs.declared.job.Region.TheVariants.{Page, Bar}
 use Rattle.vfm_types.specs.declared.job.Place.{Place}
 use Rattle.vfm_types.specs.declared.desc.DevShape.{DevShape}
 use Rattle.vfm_types.specs.declared.desc.Desc.{Desc}
-use Rattle.vfm_types.specs.Desc.{no_shape, device_count, shape_at, bar_bytes, job_at, all_budgets}
-use Rattle.vfm_types.specs.Job.{length_of, place_of, owner_of, is_bar, is_bell, is_doorbell}
+use Rattle.vfm_types.specs.Desc.{no_shape, device_count, shape_at, job_at, all_budgets}
+use Rattle.vfm_types.specs.Job.{length_of, place_of, owner_of, is_bar, is_bell}
 use Rattle.vfm_types.specs.DescFault.{spoils_bell}
-use Rattle.vfm_types.specs.Machine.{DeviceState, Machine, no_device, device_of, with_device, numbered, described_device, described, bytes_in, with_bytes, splice, bytes_at, put_at, with_front, accepting, losing, rung, ring, write_at, added, effect}
+use Rattle.vfm_types.specs.Machine.{DeviceState, Machine, no_device, device_of, with_device, numbered, described_device, described, bytes_in, with_bytes, splice, bytes_at, put_at, with_front, rung, ring, write_at, added, effect}
 use Rattle.vfm_types.specs.Requests.{fences, is_free, is_enabled, job_number, job_of, without, taken, do_request, plain_from, plain}
 use Rattle.vfm_types.specs.Serial.{least_of, next_serial, after_found, serial_from, serial}
-use Rattle.vfm_types.specs.Valid.{IsValid, IsSoundJob}
+use Rattle.vfm_types.specs.Valid.{IsValid}
 use Rattle.vfm_plain.specs.Shape.{DeviceHasShape, HasShape, DeviceHasCounts, HasCounts, HasZeroBells, CanLose, IsSound, all_done}
 use Rattle.vfm_plain.proofs.Sound.{both, sound_job, job_in_range, some_bytes}
 use Rattle.vfm_plain.proofs.Steps.{each_changed, rung_keeps, free_job, shape-taken, shape-do_request}

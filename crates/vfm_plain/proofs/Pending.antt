@@ -2,7 +2,7 @@
 use Rattle.std.proofs.Common.{◌≡◌, ℕ, ◌+◌, ◌-◌, ◌<◌, ◌&&◌, Bool, true, false, Decides, eqb, eq-eqb, get_or, ap₂, List, [], ◌∷◌, ◌++◌, length, take, drop, remove, refl, sym, ap, ◌∙◌, add-one, append_assoc, arith}
 use Rattle.std.proofs.lemmas.Bool.{false≢true}
 use Rattle.std.proofs.lemmas.Bool.Decides.{Decides-eqb}
-use Rattle.std.proofs.lemmas.List.{take_more, drop-drop, drop_at, take-take, length-take, length-take-le, length-drop}
+use Rattle.std.proofs.lemmas.List.{take_more, drop-drop, drop_at, take-take, length-take-le, length-drop}
 use Rattle.vfm_types.specs.Machine.{numbered}
 
 -- one more request is numbered

@@ -1,6 +1,6 @@
 -- A look for a request among the pending ones, one place after another.
-use Rattle.std.proofs.Common.{◌≡◌, ℕ, zero, suc, ◌+◌, ◌-◌, ◌<◌, ◌≤◌, ◌==◌, ◌||◌, not, Bool, true, false, if◌then◌else◌, List, [], ◌∷◌, ◌++◌, length, take, drop, get_or, min, remove, refl, sym, ap, ◌∙◌, eq-eqb, add-one, append_assoc, arith}
-use Rattle.std.proofs.lemmas.List.{drop_more, drop_all, take_more}
+use Rattle.std.proofs.Common.{◌≡◌, ℕ, zero, suc, ◌+◌, ◌-◌, ◌<◌, ◌==◌, ◌||◌, not, Bool, true, false, if◌then◌else◌, List, [], ◌++◌, length, take, drop, get_or, remove, refl, sym, ap, ◌∙◌, eq-eqb, add-one, append_assoc, arith}
+use Rattle.std.proofs.lemmas.List.{drop_more, take_more}
 use Rattle.std.proofs.lemmas.Bool.{ne_eqb}
 use Rattle.vfm_types.specs.Requests.{is_free, without, job_number}
 

@@ -1,5 +1,5 @@
 -- What a valid description says of each of its jobs, and where a job's bytes lie.
-use Rattle.std.proofs.Common.{◌≡◌, ℕ, suc, zero, ◌+◌, ◌*◌, ◌/◌, ◌%◌, ◌<◌, ◌≤◌, ◌==◌, ◌&&◌, Bool, true, false, cond, nat_le, nat_lt, IsTrue, List, [], ◌∷◌, length, slice_index_or, get_or, Option, Some, None, is_none, unwrap_or, mul_comm, ◌⊎◌, inl, inr, ⊎_elim, ◌^◌, refl, sym, ap, ◌∙◌, subst, arith, rules}
+use Rattle.std.proofs.Common.{◌≡◌, ℕ, suc, zero, ◌+◌, ◌*◌, ◌/◌, ◌%◌, ◌<◌, ◌≤◌, ◌&&◌, Bool, true, false, cond, nat_le, nat_lt, IsTrue, List, [], ◌∷◌, length, get_or, Option, Some, None, is_none, unwrap_or, mul_comm, ◌⊎◌, inl, inr, ⊎_elim, ◌^◌, refl, sym, ap, ◌∙◌, subst, arith}
 use Rattle.std.proofs.Math.Nat.{div-lt_iff_lt-mul}
 use Rattle.std.proofs.lemmas.Bool.{false≢true, leb-true, ltb-true}
 use Rattle.std.proofs.lemmas.List.{get_or_default}

@@ -1,9 +1,9 @@
 -- What a step of the machine keeps: its shape, and whatever each device keeps.
-use Rattle.std.proofs.Common.{◌≡◌, ◌≢◌, ℕ, suc, zero, ◌+◌, ◌<◌, ◌≤◌, ◌==◌, ◌&&◌, ◌||◌, not, Bool, true, false, if◌then◌else◌, nat_lt, IsTrue, List, [], ◌∷◌, ◌++◌, length, take, drop, remove, slice_index_or, slice_set, ◌⊎◌, inl, inr, ⊎_elim, refl, sym, ap, ◌∙◌, subst, arith}
+use Rattle.std.proofs.Common.{◌≡◌, ℕ, suc, zero, ◌+◌, ◌<◌, ◌≤◌, ◌==◌, ◌&&◌, ◌||◌, not, Bool, true, false, if◌then◌else◌, nat_lt, IsTrue, List, [], ◌∷◌, ◌++◌, length, take, drop, remove, slice_index_or, slice_set, ◌⊎◌, inl, inr, ⊎_elim, refl, sym, ap, ◌∙◌, subst, arith}
 use Rattle.std.specs.List.{All}
 use Rattle.std.specs.Int.{w64, from_le_bytes}
 use Rattle.std.proofs.lemmas.Bool.{false≢true, ltb-true, cases_eq, cases_lt}
-use Rattle.std.proofs.lemmas.List.{get_or-set_same, get_or-set_other, set_past, length-set, length-append, length-take, length-take-le, length-drop, length_push}
+use Rattle.std.proofs.lemmas.List.{get_or-set_same, get_or-set_other, set_past, length-set, length-append, length-take, length-take-le, length-drop}
 use Rattle.std.proofs.lemmas.List.Elements.{All-tail, All-head, All-cons, All-push}
 use Rattle.vfm_types.specs.declared.job.Job.{Job}
 use Rattle.vfm_types.specs.declared.job.Job.TheVariants.{Write, Read, Store, Add}
@@ -12,8 +12,8 @@ use Rattle.vfm_types.specs.declared.job.Region.TheVariants.{Page, Bar}
 use Rattle.vfm_types.specs.declared.job.Place.{Place}
 use Rattle.vfm_types.specs.declared.desc.DevShape.{DevShape}
 use Rattle.vfm_types.specs.declared.desc.Desc.{Desc}
-use Rattle.vfm_types.specs.Desc.{device_count, shape_at, bar_bytes, job_at}
-use Rattle.vfm_types.specs.Job.{address_of, length_of, place_of, owner_of, is_bell}
+use Rattle.vfm_types.specs.Desc.{device_count, shape_at}
+use Rattle.vfm_types.specs.Job.{length_of, place_of, owner_of, is_bell}
 use Rattle.vfm_types.specs.Machine.{DeviceState, Machine, no_device, device_of, with_device, bytes_in, with_bytes, splice, bytes_at, put_at, with_front, accepting, losing, rung, ring, write_at, added, effect}
 use Rattle.vfm_types.specs.Requests.{is_free, is_enabled, job_number, job_of, without, taken, do_request}
 use Rattle.vfm_types.specs.Valid.{IsValid, IsSoundJob, is_job_in_range}

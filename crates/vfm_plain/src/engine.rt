@@ -48,7 +48,7 @@ impl Engine {
         requires { length shape.now.queue ≤ 50000 }
         ensures { IfOk result (λ engine. engine ≡ described_device shape.now) }
     {
-        let bar = Sheet::zeros(alloc, shape.bar)?;
+        let bar = Sheet::zeros(alloc, shape.bar_bytes())?;
         let requests = numbered_requests(alloc, shape.queue.as_slice())?;
         Ok(Engine {
             bar,

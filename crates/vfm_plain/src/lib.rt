@@ -12,3 +12,6 @@ pub use laws::{
     serial_without_requests, sound_machines_can_lose,
 };
 pub use plain::{NotEnabled, Plain};
+
+#[cfg(test)]
+mod tests;

@@ -37,7 +37,7 @@ impl Model for Plain {
 impl Plain {
     /// The machine as described: memory, BARs and buffers are zeros, and the requests of each queue are pending.
     ///
-    /// Each device has room for the most requests that any budget allows, so that no later call takes memory.
+    /// Each device has room for 50,000 requests, the most that any budget allows, so that no later call takes memory.
     pub fn of(alloc: Global, desc: &Desc) -> Result<Plain, NoMemory>
         requires { IsValid desc.now }
         ensures value { IfOk result (λ plain. plain ≡ described desc.now) }
@@ -104,7 +104,8 @@ impl Plain {
     }
 
     /// Whether request `n` of a device may be done now: it stands among the first `window` pending requests, no fence
-    /// stands before it, and it stands first if it is a fence itself.
+    /// stands before it, and it stands first if it is a fence itself. The description is the one that the machine was
+    /// made of.
     pub fn can_do(&self, desc: &Desc, d: DeviceId, n: u32) -> bool
         requires device { d < device_count desc.now }
         requires shape { HasShape desc.now self.now }
@@ -130,7 +131,9 @@ impl Plain {
     /// Does request `n` of a device in one step: takes it from the pending requests, counts it as done, and makes its
     /// whole effect.
     ///
-    /// `NotEnabled` exactly where the request isn't enabled; then nothing is changed. Takes no memory.
+    /// `NotEnabled` exactly where the request isn't enabled; then nothing is changed. The description is the one that the
+    /// machine was made of, and no count of lost requests is at its end. Takes no memory, and moves at most `window`
+    /// pending requests, whatever their number.
     pub fn apply(&mut self, desc: &Desc, d: DeviceId, n: u32) -> Result<(), NotEnabled>
         requires valid { IsValid desc.now }
         requires device { d < device_count desc.now }

@@ -1,0 +1,562 @@
+//! The machine against values that an independent model computed.
+
+ghost use Rattle.std.specs.Prelude.{◌≡◌, ◌<◌, ◌≤◌, ℕ, IsTrue, IfOk, nat_lt, length, slice_index_or};
+ghost use Rattle.std.specs.List.{list_all};
+ghost use Rattle.vfm_types.specs.Desc.{no_shape};
+ghost use Rattle.vfm_types.specs.Valid.{InRange, IsValid, ShapeInRange, is_bar_size, is_job_in_range};
+ghost use Rattle.vfm_plain.specs.Shape.{IsSound};
+
+use crate::Plain;
+use std::alloc::{AllocError, Global};
+use std::process::Abort;
+use std::test::Fail;
+use vfm_types::{Bytes64, Desc, DevShape, DeviceId, Flags, Job, Jobs, Name, Queue, Shapes};
+
+// a job: its kind (0 Write of a pattern, 1 Read, 2 Store, 3 Add, 4 Write of a number), address, length and value
+type Row = (u8, u64, u8, u64);
+
+static ROWS_A: [Row; 9] = [
+    (0, 3, 9, 17),
+    (1, 0, 16, 0),
+    (2, 268959808, 16, 0),
+    (4, 268959744, 8, 4),
+    (4, 269484032, 8, 2),
+    (3, 24, 8, 18446744073709551600),
+    (0, 268959752, 33, 200),
+    (2, 32, 5, 0),
+    (4, 269484032, 8, 4),
+];
+
+static ROWS_B: [Row; 7] = [
+    (3, 24, 8, 33),
+    (1, 268435472, 40, 0),
+    (0, 268435516, 4, 90),
+    (2, 269484040, 24, 0),
+    (4, 268435456, 8, 7),
+    (4, 269484032, 8, 1099511627776),
+    (0, 48, 16, 1),
+];
+
+static ROWS_C: [Row; 8] = [
+    (1, 268959816, 7, 0),
+    (2, 40, 8, 0),
+    (0, 268435468, 50, 33),
+    (3, 268435496, 8, 9223372036854775809),
+    (4, 268435456, 8, 8),
+    (2, 268959744, 8, 0),
+    (1, 56, 8, 0),
+    (0, 56, 8, 3),
+];
+
+static STEPS: [(u8, u32, bool); 68] = [
+    (0, 2, true),
+    (0, 0, true),
+    (2, 1, true),
+    (2, 0, true),
+    (0, 6, false),
+    (0, 3, true),
+    (2, 3, true),
+    (0, 10, false),
+    (0, 1, true),
+    (1, 0, true),
+    (0, 0, false),
+    (0, 4, true),
+    (0, 8, false),
+    (1, 8, false),
+    (0, 5, true),
+    (2, 10, false),
+    (0, 8, false),
+    (2, 2, true),
+    (0, 7, false),
+    (1, 1, true),
+    (1, 2, true),
+    (1, 3, true),
+    (0, 6, true),
+    (2, 4, true),
+    (0, 7, true),
+    (2, 5, true),
+    (0, 10, true),
+    (1, 4, true),
+    (0, 8, true),
+    (1, 2, false),
+    (0, 9, true),
+    (2, 6, true),
+    (2, 1, false),
+    (2, 7, true),
+    (2, 9, true),
+    (2, 10, true),
+    (0, 4, false),
+    (0, 11, true),
+    (2, 4, false),
+    (2, 11, true),
+    (1, 10, false),
+    (2, 8, true),
+    (1, 5, true),
+    (0, 6, false),
+    (0, 12, true),
+    (1, 6, true),
+    (1, 7, true),
+    (1, 6, false),
+    (0, 13, true),
+    (2, 12, true),
+    (1, 8, true),
+    (1, 9, true),
+    (0, 14, true),
+    (0, 7, false),
+    (0, 15, true),
+    (2, 14, true),
+    (1, 0, false),
+    (2, 11, false),
+    (2, 13, true),
+    (0, 16, true),
+    (0, 17, true),
+    (0, 19, true),
+    (2, 12, false),
+    (0, 6, false),
+    (0, 18, true),
+    (2, 15, true),
+    (2, 4, false),
+    (2, 16, true),
+];
+
+static MIDDLE: [u8; 512] = [
+    0, 0, 0, 17, 24, 31, 38, 45, 52, 59, 66, 73, 0, 0, 0, 0, 0, 0, 0, 0, 0, 0, 0, 0, 33, 0, 0, 0,
+    0, 0, 0, 0, 0, 0, 0, 0, 0, 0, 0, 0, 0, 0, 0, 0, 0, 0, 0, 0, 1, 8, 15, 22, 29, 36, 43, 50, 57,
+    64, 71, 78, 85, 92, 99, 106, 0, 0, 0, 0, 0, 0, 0, 0, 0, 0, 0, 0, 33, 40, 47, 54, 61, 68, 75,
+    82, 89, 96, 103, 110, 117, 124, 131, 138, 145, 152, 159, 166, 173, 180, 187, 194, 201, 208,
+    215, 222, 229, 236, 243, 250, 1, 8, 15, 22, 29, 36, 43, 50, 57, 64, 71, 78, 85, 92, 99, 106,
+    113, 120, 0, 0, 0, 0, 0, 0, 0, 0, 0, 0, 200, 207, 214, 221, 228, 235, 242, 249, 0, 7, 14, 21,
+    28, 35, 42, 49, 56, 63, 70, 77, 84, 91, 98, 105, 112, 119, 126, 133, 140, 147, 154, 161, 168,
+    0, 0, 0, 0, 0, 0, 0, 0, 0, 0, 0, 0, 0, 0, 0, 0, 0, 0, 0, 0, 0, 0, 0, 0, 0, 0, 17, 24, 31, 38,
+    45, 52, 59, 66, 73, 0, 0, 0, 0, 0, 0, 0, 0, 0, 0, 0, 0, 0, 0, 0, 0, 0, 0, 0, 0, 0, 0, 0, 0, 0,
+    0, 0, 0, 0, 0, 0, 0, 0, 0, 0, 0, 0, 0, 0, 0, 0, 0, 0, 0, 0, 0, 0, 0, 0, 0, 0, 0, 0, 0, 0, 0, 0,
+    0, 0, 0, 0, 0, 0, 0, 0, 0, 0, 0, 0, 0, 0, 0, 0, 0, 0, 0, 0, 0, 0, 0, 0, 0, 0, 0, 0, 0, 0, 0, 0,
+    0, 0, 0, 0, 0, 0, 0, 0, 0, 0, 0, 0, 0, 0, 0, 0, 0, 0, 0, 0, 0, 0, 0, 0, 0, 0, 0, 0, 0, 0, 17,
+    24, 31, 38, 45, 52, 59, 66, 73, 0, 0, 0, 0, 0, 0, 0, 0, 0, 0, 0, 0, 0, 0, 0, 0, 0, 0, 0, 0, 0,
+    0, 0, 0, 0, 0, 0, 0, 0, 0, 0, 0, 0, 0, 0, 0, 0, 0, 0, 0, 0, 0, 0, 0, 0, 0, 0, 0, 0, 0, 0, 0, 0,
+    0, 0, 0, 0, 0, 0, 0, 117, 124, 131, 138, 145, 152, 159, 166, 173, 180, 187, 194, 201, 208, 215,
+    222, 229, 236, 243, 250, 1, 8, 15, 22, 29, 36, 43, 50, 57, 64, 71, 78, 0, 0, 0, 0, 0, 0, 0, 0,
+    0, 0, 0, 0, 0, 0, 0, 0, 0, 0, 0, 0, 0, 0, 0, 0, 0, 0, 0, 0, 0, 0, 0, 0, 0, 0, 0, 0, 0, 0, 0, 0,
+    0, 0, 0, 0, 0, 0, 0, 0, 0, 0, 0, 0, 0, 0, 0, 0, 0, 0, 0, 0, 0, 0, 0, 0, 0, 0, 0, 0, 0, 0, 0, 0,
+    0, 0, 0, 0, 0, 0, 0, 0, 0, 0, 0, 0, 0, 0, 0, 0,
+];
+
+static END: [u8; 512] = [
+    0, 0, 0, 17, 24, 31, 38, 45, 52, 59, 66, 73, 0, 0, 0, 0, 0, 0, 0, 0, 0, 0, 0, 0, 17, 0, 0, 0,
+    0, 0, 0, 0, 33, 0, 0, 0, 0, 0, 0, 0, 52, 59, 66, 73, 0, 0, 0, 22, 1, 8, 15, 22, 29, 36, 43, 50,
+    57, 64, 71, 78, 85, 92, 99, 106, 0, 0, 0, 0, 0, 0, 0, 0, 0, 0, 0, 0, 33, 40, 47, 54, 61, 68,
+    75, 82, 89, 96, 103, 110, 117, 124, 131, 138, 145, 152, 159, 166, 173, 180, 187, 194, 201, 208,
+    215, 222, 229, 236, 243, 250, 1, 8, 15, 22, 29, 36, 43, 50, 57, 64, 71, 78, 85, 92, 99, 106,
+    90, 97, 104, 111, 0, 0, 0, 0, 0, 0, 0, 0, 200, 207, 214, 221, 228, 235, 242, 249, 0, 7, 14, 21,
+    28, 35, 42, 49, 56, 63, 70, 77, 84, 91, 98, 105, 112, 119, 126, 133, 140, 147, 154, 161, 168,
+    0, 0, 0, 0, 0, 0, 0, 0, 0, 0, 0, 0, 0, 0, 0, 0, 0, 0, 0, 0, 0, 0, 0, 0, 0, 0, 17, 24, 31, 38,
+    45, 52, 59, 66, 73, 0, 0, 0, 0, 0, 0, 0, 0, 0, 0, 0, 0, 0, 0, 0, 0, 0, 0, 0, 0, 0, 0, 0, 0, 0,
+    0, 0, 0, 0, 0, 0, 0, 0, 0, 0, 0, 0, 0, 0, 0, 0, 0, 0, 0, 0, 0, 0, 0, 0, 0, 0, 0, 0, 0, 0, 0, 0,
+    0, 0, 0, 0, 0, 0, 0, 0, 0, 0, 0, 117, 124, 131, 138, 145, 152, 159, 166, 173, 180, 187, 194,
+    201, 208, 215, 222, 0, 0, 0, 0, 0, 0, 0, 0, 0, 0, 0, 0, 0, 0, 0, 0, 0, 0, 0, 0, 0, 0, 0, 0, 0,
+    0, 0, 0, 0, 0, 0, 0, 33, 0, 0, 0, 0, 0, 0, 0, 52, 59, 66, 73, 0, 0, 0, 0, 0, 0, 0, 0, 0, 0, 0,
+    0, 0, 0, 0, 0, 0, 0, 0, 0, 0, 0, 0, 0, 0, 0, 0, 0, 0, 0, 0, 0, 0, 0, 0, 0, 0, 0, 0, 0, 0, 0, 0,
+    0, 0, 0, 0, 0, 0, 0, 0, 0, 0, 0, 0, 0, 0, 0, 0, 0, 117, 124, 131, 138, 145, 152, 159, 166, 173,
+    180, 187, 194, 201, 208, 215, 222, 229, 236, 243, 250, 1, 8, 15, 22, 29, 36, 43, 50, 57, 64,
+    71, 78, 0, 0, 0, 0, 0, 0, 0, 0, 0, 0, 0, 0, 0, 0, 0, 0, 0, 0, 0, 0, 0, 0, 0, 0, 52, 59, 66, 73,
+    0, 0, 0, 22, 0, 0, 0, 0, 0, 0, 0, 0, 0, 0, 0, 0, 0, 0, 0, 0, 0, 0, 0, 0, 0, 0, 0, 0, 0, 0, 0,
+    0, 0, 0, 0, 0, 0, 0, 0, 0, 0, 0, 0, 0, 0, 0, 0, 0, 0, 0, 0, 0, 0, 0, 0, 0, 0, 0, 0, 0,
+];
+
+// whether the job's numbers are in their ranges
+fn is_job_in_range(job: &Job) -> bool
+    ensures { result ≡ is_job_in_range job.now }
+{
+    match job {
+        Job::Write { at, bytes } => {
+            let _at = *at;
+            let len = bytes.bytes().len();
+            len >= 1 && len <= 64
+        }
+        Job::Read { at, len } => {
+            let _at = *at;
+            *len >= 1 && *len <= 64
+        }
+        Job::Store { at, len } => {
+            let _at = *at;
+            *len >= 1 && *len <= 64
+        }
+        Job::Add { at, value } => {
+            let _at = *at;
+            let _value = *value;
+            true
+        }
+    }
+}
+
+fn are_jobs_in_range(jobs: &[Job]) -> bool
+    ensures { result ≡ list_all is_job_in_range jobs.now }
+{
+    jobs.iter().all(|job| is_job_in_range(job))
+}
+
+// whether all these are below a count
+fn are_below(queue: &[u32], count: u32) -> bool
+    ensures { result ≡ list_all (λ j. nat_lt j count) queue.now }
+{
+    queue.iter().all(|j| *j < count)
+}
+
+fn is_bar_size(bar: u32) -> bool
+    ensures { result ≡ is_bar_size bar }
+{
+    bar >= 64 && bar <= 65536 && bar % 64 == 0
+}
+
+// whether the device's numbers are in their ranges
+fn is_shape_in_range(shape: &DevShape) -> bool
+    ensures { IsTrue result → ShapeInRange shape.now }
+{
+    let _name = shape.name.bytes();
+    let _flags = shape.flags.bits();
+    if !is_bar_size(shape.bar) {
+        return false;
+    }
+    if shape.window < 1 {
+        return false;
+    }
+    if shape.window > 8 {
+        return false;
+    }
+    if shape.budget > 50000 {
+        return false;
+    }
+    if shape.fails > 3 {
+        return false;
+    }
+    if shape.jobs.len() > 4096 {
+        return false;
+    }
+    if shape.queue.len() > shape.budget {
+        return false;
+    }
+    if !are_below(shape.queue.as_slice(), shape.jobs.len()) {
+        return false;
+    }
+    are_jobs_in_range(shape.jobs.as_slice())
+}
+
+// whether the devices' numbers are in their ranges
+fn are_shapes_in_range(shapes: &Shapes) -> bool
+    ensures { IsTrue result → (d : ℕ) → d < length shapes.now → ShapeInRange (slice_index_or shapes.now d no_shape) }
+{
+    for d in 0..shapes.len() {
+        if !is_shape_in_range(shapes.at(d)) {
+            return false;
+        }
+    }
+    true
+}
+
+// whether the description's numbers are in their ranges
+fn is_in_range(desc: &Desc) -> bool
+    ensures { IsTrue result → InRange desc.now }
+{
+    let _session = desc.session;
+    if desc.page != 16 {
+        return false;
+    }
+    if desc.pages != 4 {
+        return false;
+    }
+    if desc.channels != 1 {
+        return false;
+    }
+    if desc.version != 1 {
+        return false;
+    }
+    if desc.begin > 0 {
+        return false;
+    }
+    if desc.rounds > 0 {
+        return false;
+    }
+    if desc.threshold > 0 {
+        return false;
+    }
+    if desc.devices.len() < 1 {
+        return false;
+    }
+    if desc.devices.len() > 8 {
+        return false;
+    }
+    are_shapes_in_range(&desc.devices)
+}
+
+// the first bytes of a pattern
+fn pattern(value: u64, len: u8) -> Option<Bytes64> {
+    let mut bytes = [0u8; 64];
+    let mut next = (value % 256) as u8;
+    for i in 0..64usize {
+        bytes[i] = next;
+        next = next.wrapping_add(7);
+    }
+    if len > 64 {
+        return None;
+    }
+    Bytes64::of(&bytes[..len as usize])
+}
+
+// the job of a row
+fn job_of(row: &Row) -> Option<Job> {
+    let (kind, at, len, value) = *row;
+    match kind {
+        0 => {
+            let bytes = pattern(value, len)?;
+            Some(Job::Write { at, bytes })
+        }
+        1 => Some(Job::Read { at, len }),
+        2 => Some(Job::Store { at, len }),
+        3 => Some(Job::Add { at, value }),
+        _ => {
+            let bytes = Bytes64::of(&value.to_le_bytes())?;
+            Some(Job::Write { at, bytes })
+        }
+    }
+}
+
+// a device with these jobs and this queue
+fn device(
+    rt: &impl Abort,
+    alloc: Global,
+    name: &[u8],
+    sizes: (u32, u8, u32),
+    rows: &[Row],
+    queue: &[u32],
+) -> Result<DevShape, Fail> {
+    let mut jobs = Vec::new(alloc);
+    for row in rows {
+        jobs.push(job_of(row).ok_or("no job")?)?;
+    }
+    let queue = Vec::from_slice(alloc, queue)?;
+    assert!(rt; jobs.len() <= 4096);
+    assert!(rt; queue.len() <= 50000);
+    Ok(DevShape {
+        name: Name::of(name).ok_or("no name")?,
+        flags: Flags::of(7).ok_or("no flags")?,
+        bar: sizes.0,
+        window: sizes.1,
+        tells: true,
+        budget: sizes.2,
+        fails: 0,
+        jobs: Jobs::of(jobs),
+        queue: Queue::of(queue),
+    })
+}
+
+// a machine of four pages of 16 bytes with these devices
+fn machine(rt: &impl Abort, devices: Vec<DevShape>) -> Result<Desc, Fail>
+    ensures { IfOk result IsValid }
+{
+    assert!(rt; devices.len() <= 8);
+    let desc = Desc {
+        session: 7,
+        page: 16,
+        pages: 4,
+        channels: 1,
+        version: 1,
+        begin: 0,
+        rounds: 0,
+        threshold: 0,
+        devices: Shapes::of(devices),
+    };
+    assert!(rt; is_in_range(&desc));
+    Ok(Desc::new(desc)?)
+}
+
+#[tactic(auto, using(crate::proofs::Effects::can_lose))]
+// tries these requests in order: device, number, and whether it is enabled
+fn play(rt: &impl Abort, desc: &Desc, plain: &mut Plain, steps: &[(u8, u32, bool)])
+    requires valid { IsValid desc.now }
+    requires sound { IsSound desc.now plain.old }
+    ensures { IsSound desc.now plain.new }
+{
+    for step in steps {
+        let (d, n, enabled) = *step;
+        assert!(rt; u32::from(d) < desc.devices.len());
+        assert_eq!(rt; plain.can_do(desc, DeviceId(d), n), enabled);
+        let answer = plain.apply(desc, DeviceId(d), n);
+        assert_eq!(rt; answer.is_ok(), enabled);
+    }
+}
+
+// the bytes of all pages, then of all BARs, then of all buffers
+fn state_bytes(alloc: Global, desc: &Desc, plain: &Plain) -> Result<Vec<u8>, AllocError>
+    requires valid { IsValid desc.now }
+    requires sound { IsSound desc.now plain.now }
+{
+    let mut bytes = Vec::new(alloc);
+    for p in 0..desc.pages {
+        bytes.extend_from_slice(plain.page(p))?;
+    }
+    for d in 0..desc.devices.len() {
+        bytes.extend_from_slice(plain.bar(DeviceId(d as u8)))?;
+    }
+    for d in 0..desc.devices.len() {
+        bytes.extend_from_slice(&plain.buf(DeviceId(d as u8))[..])?;
+    }
+    Ok(bytes)
+}
+
+#[test]
+fn forty_seven_requests(rt: HostRuntime) -> Result<(), Fail> {
+    let alloc = rt.alloc();
+    let mut devices = Vec::new(alloc);
+    devices.push(device(
+        &rt,
+        alloc,
+        b"nic",
+        (64, 3, 20),
+        &ROWS_A,
+        &[0, 6, 3, 0, 4, 1, 2, 5, 8, 3],
+    )?)?;
+    devices.push(device(
+        &rt,
+        alloc,
+        b"gpu",
+        (128, 1, 16),
+        &ROWS_B,
+        &[6, 1, 5, 0, 3, 2, 4, 2],
+    )?)?;
+    devices.push(device(
+        &rt,
+        alloc,
+        b"disk",
+        (64, 8, 18),
+        &ROWS_C,
+        &[7, 7, 2, 4, 3, 0, 1, 5],
+    )?)?;
+    let desc = machine(&rt, devices)?;
+    let mut plain = Plain::of(alloc, &desc)?;
+    let other = Plain::of(alloc, &desc)?;
+    assert!(rt; plain.same(&other));
+
+    play(&rt, &desc, &mut plain, &STEPS[..23]);
+    assert!(rt; !plain.same(&other));
+    let middle = state_bytes(alloc, &desc, &plain)?;
+    assert_eq!(rt; middle.as_slice(), MIDDLE.as_slice());
+    assert_eq!(rt; desc.devices.len(), 3);
+    assert_eq!(rt; plain.counts(DeviceId(0)), (11, 7, 0));
+    assert_eq!(rt; plain.counts(DeviceId(1)), (9, 4, 0));
+    assert_eq!(rt; plain.counts(DeviceId(2)), (9, 4, 1));
+    assert_eq!(rt;
+        plain.pending(DeviceId(0)),
+        [(7, 5), (8, 8), (9, 3), (10, 8)].as_slice()
+    );
+    assert_eq!(rt;
+        plain.pending(DeviceId(1)),
+        [(4, 3), (5, 2), (6, 4), (7, 2), (8, 4)].as_slice()
+    );
+    assert_eq!(rt;
+        plain.pending(DeviceId(2)),
+        [(4, 3), (5, 0), (6, 1), (7, 5), (8, 2)].as_slice()
+    );
+
+    play(&rt, &desc, &mut plain, &STEPS[23..]);
+    let end = state_bytes(alloc, &desc, &plain)?;
+    assert_eq!(rt; end.as_slice(), END.as_slice());
+    assert_eq!(rt; plain.counts(DeviceId(0)), (20, 20, 2));
+    assert_eq!(rt; plain.counts(DeviceId(1)), (10, 10, 1));
+    assert_eq!(rt; plain.counts(DeviceId(2)), (17, 17, 1));
+    assert_eq!(rt; plain.pending(DeviceId(2)).len(), 0);
+    Ok(())
+}
+
+// the machine of a description after these requests
+fn played(
+    rt: &impl Abort,
+    alloc: Global,
+    desc: &Desc,
+    steps: &[(u8, u32, bool)],
+) -> Result<Plain, Fail>
+    requires { IsValid desc.now }
+    ensures { IfOk result (IsSound desc.now) }
+{
+    let mut plain = Plain::of(alloc, desc)?;
+    play(rt, desc, &mut plain, steps);
+    Ok(plain)
+}
+
+#[test]
+fn a_doorbell_is_accepted(rt: HostRuntime) -> Result<(), Fail> {
+    let alloc = rt.alloc();
+    let mut devices = Vec::new(alloc);
+    devices.push(device(&rt, alloc, b"a", (64, 1, 1), &[(4, 268959744, 8, 1)], &[0])?)?;
+    devices.push(device(
+        &rt,
+        alloc,
+        b"b",
+        (64, 1, 1),
+        &[(3, 0, 8, 1), (3, 8, 8, 1)],
+        &[],
+    )?)?;
+    let desc = machine(&rt, devices)?;
+    let plain = played(&rt, alloc, &desc, &[(0, 0, true)])?;
+    assert_eq!(rt; desc.devices.len(), 2);
+    assert_eq!(rt; plain.counts(DeviceId(1)), (1, 0, 0));
+    assert_eq!(rt; plain.pending(DeviceId(1)), [(0, 1)].as_slice());
+    assert_eq!(rt; plain.bar(DeviceId(1)), [0u8; 64].as_slice());
+    Ok(())
+}
+
+#[test]
+fn doorbells_are_lost(rt: HostRuntime) -> Result<(), Fail> {
+    let alloc = rt.alloc();
+    let rings = [(4, 268959744, 8, 1), (4, 268959744, 8, 2)];
+    let mut devices = Vec::new(alloc);
+    devices.push(device(&rt, alloc, b"a", (64, 2, 3), &rings, &[0, 0, 1])?)?;
+    devices.push(device(
+        &rt,
+        alloc,
+        b"b",
+        (64, 1, 1),
+        &[(3, 0, 8, 1), (3, 8, 8, 1)],
+        &[],
+    )?)?;
+    let steps = [(0, 2, false), (0, 1, true), (0, 0, true), (0, 2, true)];
+    let desc = machine(&rt, devices)?;
+    let plain = played(&rt, alloc, &desc, &steps)?;
+    assert_eq!(rt; desc.devices.len(), 2);
+    assert_eq!(rt; plain.counts(DeviceId(1)), (1, 0, 2));
+    Ok(())
+}
+
+#[test]
+fn a_fence_waits(rt: HostRuntime) -> Result<(), Fail> {
+    let alloc = rt.alloc();
+    let mut devices = Vec::new(alloc);
+    let rows = [(0, 0, 1, 0xaa), (0, 0, 1, 0xbb), (1, 0, 4, 0)];
+    devices.push(device(&rt, alloc, b"a", (64, 2, 3), &rows, &[0, 1, 2])?)?;
+    let steps = [
+        (0, 2, false),
+        (0, 1, true),
+        (0, 2, false),
+        (0, 0, true),
+        (0, 2, true),
+    ];
+    let desc = machine(&rt, devices)?;
+    let plain = played(&rt, alloc, &desc, &steps)?;
+    let page = [0xaa, 0, 0, 0, 0, 0, 0, 0, 0, 0, 0, 0, 0, 0, 0, 0];
+    assert_eq!(rt; plain.page(0), page.as_slice());
+    assert_eq!(rt; &plain.buf(DeviceId(0))[..4], [0xaa, 0, 0, 0].as_slice());
+    Ok(())
+}
+
+#[test]
+fn an_add_wraps(rt: HostRuntime) -> Result<(), Fail> {
+    let alloc = rt.alloc();
+    let mut devices = Vec::new(alloc);
+    let rows = [(4, 8, 8, 0xffff_ffff_ffff_ffff), (3, 8, 8, 1)];
+    devices.push(device(&rt, alloc, b"a", (64, 1, 2), &rows, &[0, 1])?)?;
+    let desc = machine(&rt, devices)?;
+    let plain = played(&rt, alloc, &desc, &[(0, 0, true), (0, 1, true)])?;
+    assert_eq!(rt; plain.page(0), [0u8; 16].as_slice());
+    let old = [255, 255, 255, 255, 255, 255, 255, 255, 0];
+    assert_eq!(rt; &plain.buf(DeviceId(0))[..9], old.as_slice());
+    Ok(())
+}
