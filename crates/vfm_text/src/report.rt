@@ -18,6 +18,7 @@ use vfm_plain::Plain;
 use vfm_types::Desc;
 
 /// What a run has to tell of its machine. Each part but the first is there only where the run has it.
+#[derive(Drop)]
 pub struct Told<'a> {
     /// The source's journal.
     pub source: &'a Journal,

@@ -1,3 +1,5 @@
 pub mod Number
 pub mod Form
 pub mod StatusText
+pub mod Headline
+pub mod Says

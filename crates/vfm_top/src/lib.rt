@@ -2,6 +2,7 @@
 #![tactic(auto)]
 
 mod line;
+mod print;
 mod status;
 mod words;
 

@@ -1,0 +1,113 @@
+//! The top call.
+
+ghost use Rattle.std.specs.Prelude.{◌≡◌, ◌≢◌, ℕ, List, Option, Some, None, MatchOption, map, string_bytes};
+ghost use Rattle.vfm_top.specs.declared.words.Form.TheVariants.{Run};
+ghost use Rattle.vfm_top.specs.Form.{form_of};
+ghost use Rattle.vfm_top.specs.Says.{bytes_read, Answers};
+
+use crate::print::{
+    print_bad_words, print_fault, print_moved, print_no_memory, print_path, print_read_fault,
+    print_refused,
+};
+use crate::words::{Form, read_words};
+use crate::Status;
+use std::alloc::Global;
+use std::sync::Wait;
+use std::thread::Threads;
+use vfm_desc::{MOST_BYTES, read_desc};
+use vfm_outside::{Beat, ReadFault, Sink, Source, Wires, read_up_to};
+use vfm_solo::move_one;
+use vfm_states::path;
+use vfm_types::{DescFault, Flags, MigState};
+
+/// Prints the path between two states, or why there is none.
+fn answer_path<S: Sink>(from: MigState, to: MigState, flags: Flags, out: &mut S) -> Status
+    ensures { (bytes : Option (List ℕ)) (before now : ℕ) → Answers (Some (Paths from to flags)) bytes before now result (S.holds out.old) (S.faults out.old) (S.holds out.new) (S.faults out.new) }
+{
+    match path(from, to, flags) {
+        Ok(route) => print_path(&route, out),
+        Err(fault) => print_refused(fault, out),
+    }
+}
+
+/// What is said of `run` with words that need no machine: `None`, with nothing read and nothing written, exactly
+/// where the words are of the form `run`.
+pub fn local<D: Source, R: Source, S: Sink>(
+    alloc: Global,
+    words: &[String],
+    desc: &mut D,
+    report: &mut R,
+    out: &mut S,
+) -> Option<Status>
+    ensures machine { result ≡ None → form_of (map string_bytes words.now) ≡ Some Run }
+    ensures quiet { result ≡ None → (S.holds out.new ≡ S.holds out.old) × (S.faults out.new ≡ S.faults out.old) }
+    ensures answer { MatchOption result (Unit {0}) (λ status. (form_of (map string_bytes words.now) ≢ Some Run)
+        × ((bytes : Option (List ℕ)) (before now : ℕ) → Answers (form_of (map string_bytes words.now)) bytes before now status
+            (S.holds out.old) (S.faults out.old) (S.holds out.new) (S.faults out.new))) }
+    ensures desc_left { D.left desc.new ≡ D.left desc.old }
+    ensures desc_faults { D.faults desc.new ≡ D.faults desc.old }
+    ensures report_left { R.left report.new ≡ R.left report.old }
+    ensures report_faults { R.faults report.new ≡ R.faults report.old }
+{
+    match read_words(words) {
+        None => Some(print_bad_words(out)),
+        Some(Form::Run) => None,
+        Some(Form::Paths { from, to, flags }) => Some(answer_path(from, to, flags, out)),
+    }
+}
+
+/// Moves the machine that the bytes describe.
+fn answer_bytes<S: Sink>(alloc: Global, bytes: &[u8], out: &mut S) -> Status
+    ensures { (before now : ℕ) → Answers (Some Run) (Some bytes.now) before now result (S.holds out.old) (S.faults out.old) (S.holds out.new) (S.faults out.new) }
+{
+    match read_desc(alloc, bytes) {
+        Err(DescFault::NoMemory) => print_no_memory(out),
+        Err(fault) => print_fault(fault, out),
+        Ok(desc) => match move_one(alloc, &desc) {
+            Err(_) => print_no_memory(out),
+            Ok(moved) => print_moved(
+                &desc,
+                &moved.source,
+                &moved.joint,
+                &moved.destination,
+                &moved.last,
+                out,
+            ),
+        },
+    }
+}
+
+/// Reads a description and moves the machine that it describes.
+fn answer_run<D: Source, S: Sink>(alloc: Global, desc: &mut D, out: &mut S) -> Status
+    ensures { Answers (Some Run) (bytes_read (D.left desc.old)) (D.faults desc.old) (D.faults desc.new) result (S.holds out.old) (S.faults out.old) (S.holds out.new) (S.faults out.new) }
+{
+    match read_up_to(alloc, desc, MOST_BYTES + 1) {
+        Err(ReadFault::Failed) => print_read_fault(out),
+        Err(ReadFault::NoMemory) => print_no_memory(out),
+        Ok(bytes) => answer_bytes(alloc, bytes.as_slice(), out),
+    }
+}
+
+/// Does what the words ask for, and prints it.
+///
+/// The words, without the program's name, are `run FILE`, which moves the machine that `desc` describes, or
+/// `paths FROM TO FLAGS`, which prints a path between device states; others are `BadWords`. A description is read to
+/// its end or to 16,777,217 bytes. `report`, `wires` and `beat` aren't touched by these forms.
+pub fn run<H: Threads + Wait + Sync, D: Source, R: Source, S: Sink, W: Wires, B: Beat + Sync>(
+    _rt: &H,
+    alloc: Global,
+    words: &[String],
+    desc: &mut D,
+    report: &mut R,
+    _wires: &mut W,
+    out: &mut S,
+    _beat: &B,
+) -> Status
+    ensures answer { Answers (form_of (map string_bytes words.now)) (bytes_read (D.left desc.old)) (D.faults desc.old) (D.faults desc.new)
+        result (S.holds out.old) (S.faults out.old) (S.holds out.new) (S.faults out.new) }
+{
+    match local(alloc, words, desc, report, out) {
+        Some(status) => status,
+        None => answer_run(alloc, desc, out),
+    }
+}
