@@ -1,4 +1,5 @@
 pub mod Ranges
 pub mod Built
+pub mod BuiltForms
 pub mod Reading
 pub mod Described

@@ -8,6 +8,7 @@ ghost use Rattle.serde_json.specs.View.{view};
 ghost use Rattle.vfm_types.specs.declared.fault.DescFault.TheVariants.{Range};
 ghost use Rattle.vfm_types.specs.Bytes.{is_name};
 ghost use Rattle.vfm_desc.specs.Ranges.{least, most, has_form};
+ghost use Rattle.vfm_desc.specs.Built.{is_built, is_kind_built};
 ghost use Rattle.vfm_desc.specs.Reading as spec;
 ghost use Rattle.vfm_desc.specs.Reading.{Gives};
 
@@ -85,6 +86,7 @@ fn ranged(level: Level, name: FieldName, n: u64) -> Result<u64, DescFault>
     ensures low { IfOk result (λ n. least name ≤ n) }
     ensures high { IfOk result (λ n. n ≤ most name) }
     ensures form { IfOk result (λ n. IsTrue (has_form name n)) }
+    ensures built { IfOk result (λ n. IsTrue (is_built name n)) }
     ensures same { IfOk result (λ m. m ≡ n) }
 {
     if !is_in_range(name, n) {
@@ -103,6 +105,7 @@ pub(crate) fn number(object: &Value, level: Level, name: FieldName) -> Result<u6
     ensures low { IfOk result (λ n. least name ≤ n) }
     ensures high { IfOk result (λ n. n ≤ most name) }
     ensures form { IfOk result (λ n. IsTrue (has_form name n)) }
+    ensures built { IfOk result (λ n. IsTrue (is_built name n)) }
 {
     let value = member(object, level, name)?;
     let n = whole_number(value, level.field(name))?;
@@ -172,7 +175,8 @@ fn bytes_of_hex(alloc: Global, digits: &str, field: Field) -> Result<Bytes64, De
 /// A job's kind.
 #[tactic(auto, unfolding(crate::specs::Reading::kind_in))]
 pub(crate) fn kind(object: &Value, level: Level) -> Result<JobKind, DescFault>
-    ensures { Gives (λ kind. kind) result (spec.kind_in (view object.now) level) }
+    ensures value { Gives (λ kind. kind) result (spec.kind_in (view object.now) level) }
+    ensures built { IfOk result (λ kind. IsTrue (is_kind_built kind)) }
 {
     let text = text(object, level, FieldName::Kind)?;
     let kind = kind_of(text).ok_or(DescFault::Range(level.field(FieldName::Kind)))?;
@@ -205,6 +209,7 @@ pub(crate) fn list(object: &Value, level: Level, name: FieldName) -> Result<&[Va
     ensures value { Gives (λ list. map view list.now) result (spec.list_in (view object.now) level name) }
     ensures low { IfOk result (λ list. least name ≤ length list.now) }
     ensures high { IfOk result (λ list. length list.now ≤ most name) }
+    ensures built { IfOk result (λ list. IsTrue (is_built name (length list.now))) }
 {
     let value = member(object, level, name)?;
     let list = elements(value, level, name)?;
