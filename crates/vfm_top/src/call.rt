@@ -1,7 +1,7 @@
 //! The top call.
 
 ghost use Rattle.std.specs.Prelude.{◌≡◌, ◌≢◌, ℕ, List, Option, Some, None, MatchOption, map, string_bytes};
-ghost use Rattle.vfm_top.specs.declared.words.Form.TheVariants.{Run};
+ghost use Rattle.vfm_top.specs.declared.words.Form.TheVariants.{Run, Paths};
 ghost use Rattle.vfm_top.specs.Form.{form_of};
 ghost use Rattle.vfm_top.specs.Says.{bytes_read, Answers};
 
