@@ -49,10 +49,12 @@ pub fn local<D: Source, R: Source, S: Sink>(
     ensures report_left { R.left report.new ≡ R.left report.old }
     ensures report_faults { R.faults report.new ≡ R.faults report.old }
 {
-    match read_words(words) {
-        None => Some(print_bad_words(out)),
-        Some(Form::Run) => None,
-        Some(Form::Paths { from, to, flags }) => Some(answer_path(from, to, flags, out)),
+    let Some(form) = read_words(words) else {
+        return Some(print_bad_words(out));
+    };
+    match form {
+        Form::Run => None,
+        Form::Paths { from, to, flags } => Some(answer_path(from, to, flags, out)),
     }
 }
 

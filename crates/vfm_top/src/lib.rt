@@ -4,7 +4,6 @@
 mod call;
 mod line;
 mod print;
-
 mod status;
 mod words;
 

@@ -7,7 +7,7 @@ ghost use Rattle.vfm_top.specs.Form as spec;
 use vfm_types::{Flags, MigState};
 
 /// What the words ask for.
-#[derive(Clone, Copy, Debug, PartialEq, Eq)]
+#[derive(Debug, Drop)]
 pub enum Form {
     /// `run FILE`: move the described machine.
     Run,

@@ -1,0 +1,29 @@
+-- The move that was made is told.
+use Rattle.std.proofs.Common.{refl}
+use Rattle.std.specs.Prelude.{Some}
+use Rattle.vfm_plain.specs.Report.{report_text}
+use Rattle.vfm_top.specs.declared.status.Status.TheVariants.{Moved}
+use Rattle.vfm_top.specs.StatusText.{status_line}
+use Rattle.vfm_top.specs.Says.{moved_told}
+use Rattle.vfm_top.proofs.call.answer_bytes.Goals as goal
+
+pub returns : goal.returns
+returns g c = λ before now.
+    let desc = c.in-Ok.desc in
+    let moved = c.in-Ok-move_one.moved in
+    record {
+      status = Moved;
+      text = report_text desc (status_line Moved) (Some (moved_told moved.source.entries moved.joint moved.destination.entries moved.last));
+      says = (refl, record {
+        desc = desc;
+        source = moved.source.entries;
+        joint = moved.joint;
+        destination = moved.destination.entries;
+        last = moved.last;
+        described = c.in-Ok.ensures.value;
+        valid = c.in-Ok.ensures.valid;
+        move_made = record { joint_shape = c.in-Ok-move_one.ensures.joint_shape; last_shape = c.in-Ok-move_one.ensures.last_shape };
+        told = refl;
+      });
+      ends = c.print_moved.ensures;
+    }
