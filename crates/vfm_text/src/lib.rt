@@ -12,6 +12,9 @@ mod state;
 mod write;
 
 pub use entry::state_name;
+pub use gather::Gather;
 pub use pen::Pen;
-pub use report::Told;
+pub use piece::{put_all, put_hex, put_line};
+pub use report::{Told, put_parts};
+pub use sink_pen::SinkPen;
 pub use write::{state_digest, write_journal, write_report, write_state};

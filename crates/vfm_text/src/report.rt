@@ -88,7 +88,7 @@ fn put_state_if<P: Pen>(
 }
 
 /// Writes the parts of a report in their order, and the line that ends them.
-fn put_parts<P: Pen>(pen: &mut P, desc: &Desc, told: &Told<'_>) -> Result<(), Failed>
+pub fn put_parts<P: Pen>(pen: &mut P, desc: &Desc, told: &Told<'_>) -> Result<(), Failed>
     requires joint { IfSome told.now.joint (λ m. HasShape desc.now m.now) }
     requires loaded { IfSome told.now.loaded (λ m. HasShape desc.now m.now) }
     requires last { IfSome told.now.last (λ m. HasShape desc.now m.now) }
