@@ -78,25 +78,3 @@ impl Journal {
         self.entries.as_slice()
     }
 }
-
-#[cfg(test)]
-mod tests {
-    use super::*;
-    use std::test::Fail;
-    use vfm_types::DeviceId;
-
-    #[test]
-    fn keeps_entries_in_order(rt: HostRuntime) -> Result<(), Fail> {
-        let mut journal = Journal::with_room(rt.alloc(), 2)?;
-        let issue = Entry::Issue {
-            d: DeviceId(3),
-            n: 7,
-        };
-        journal.push(issue);
-        journal.push(Entry::Begin);
-        assert!(rt; journal.len() == 2);
-        assert!(rt; journal.at(0) == issue);
-        assert!(rt; journal.at(1) == Entry::Begin);
-        Ok(())
-    }
-}

@@ -4,3 +4,6 @@
 mod journal;
 
 pub use journal::Journal;
+
+#[cfg(test)]
+mod tests;

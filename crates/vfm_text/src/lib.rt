@@ -18,3 +18,6 @@ pub use piece::{put_all, put_hex, put_line};
 pub use report::{Told, put_parts};
 pub use sink_pen::SinkPen;
 pub use write::{state_digest, write_journal, write_report, write_state};
+
+#[cfg(test)]
+mod tests;
