@@ -1,10 +1,10 @@
 -- What is said of bytes that were read is said of a source that doesn't tell them.
-use Rattle.std.proofs.Common.{◌≡◌, ℕ, List, refl, subst, sym}
+use Rattle.std.proofs.Common.{◌≡◌, ℕ, List, take, subst, ◌∙◌}
 use Rattle.std.specs.Prelude.{Option, Some, None, IfSome}
 use Rattle.vfm_top.specs.declared.words.Form.{Form}
 use Rattle.vfm_top.specs.declared.status.Status.{Status}
 use Rattle.vfm_top.specs.declared.status.Status.TheVariants.{Moved, Printed, BadWords, BadDescription, ReadFault, WriteFault, LinkFault, Refused, Unconfirmed, InDoubt, Differs, Aborted, ArcFailed, NoControl, NoMemory, PathRefused, Broken, BadReport, StateDiffers}
-use Rattle.vfm_top.specs.Says.{Says, Answers}
+use Rattle.vfm_top.specs.Says.{Says, Answers, bytes_read, read_limit}
 
 pub unread : (form : Option Form) (bytes : List ℕ) (before now : ℕ) (status : Status) (text : List ℕ) → Says form (Some bytes) before now status text → Says form None before now status text
 unread form bytes before now Moved text h =
@@ -34,3 +34,8 @@ as_told {form} {before} {now} bytes None h a =
     record { status = a.status; text = a.text; says = unread form bytes before now a.status a.text a.says; ends = a.ends }
 as_told {form} {before} {now} {result} {held} {faults} {holds} {after} bytes (Some read) h a =
     subst (λ (b : List ℕ). Answers form (Some b) before now result held faults holds after) h a
+
+-- what was read is what was to be read, where the source tells it
+pub read_is : (left : Option (List ℕ)) (seen bytes : List ℕ) → seen ≡ bytes → IfSome left (λ all. bytes ≡ take read_limit all) → IfSome (bytes_read left) (λ read. seen ≡ read)
+read_is None seen bytes e h = tt
+read_is (Some all) seen bytes e h = e ∙ h

@@ -1,8 +1,10 @@
 -- The bytes that were read are those that were to be read.
-use Rattle.std.proofs.lemmas.Option.{IfSome-map}
 use Rattle.vfm_top.specs.Says.{bytes_read}
-use Rattle.vfm_top.proofs.Unread.{as_told}
+use Rattle.vfm_top.proofs.Unread.{as_told, read_is}
 use Rattle.vfm_top.proofs.call.answer_run.Goals as goal
 
 pub returns-in-Ok : goal.returns-in-Ok
-returns-in-Ok g c = as_told c.as_slice.result.now (bytes_read (g.D.Source.left c.args.desc.now)) ? (c.answer_bytes.ensures _ _)
+returns-in-Ok g c =
+    let left = g.D.Source.left c.args.desc.now in
+    let seen = c.as_slice.result.now in
+    as_told seen (bytes_read left) (read_is left seen c.in-Ok.bytes.items c.as_slice.ensures.value c.in-Ok.ensures.bytes) (c.answer_bytes.ensures _ _)
