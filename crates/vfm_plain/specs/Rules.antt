@@ -119,7 +119,7 @@ abbrev pub is_pass_wanted : Desc → ℕ → List Entry → Bool
 is_pass_wanted D k past =
     if is_joint past then not (is_last_begun past)
     else not (is_decided D past)
-        && (not (k == 1) || all_below (device_count D) (λ d. not (has_pre_copy (shape_at D d).flags) || same_state (state_of d past) PreCopy))
+    && (not (k == 1) || all_below (device_count D) (λ d. not (has_pre_copy (shape_at D d).flags) || same_state (state_of d past) PreCopy))
 
 -- page p is the least of the newest pass that isn't copied yet
 abbrev pub is_copy_due : Desc → ℕ → List Entry → Bool
