@@ -21,3 +21,6 @@ pub use reader::{pending_at, read};
 pub use record::{Rec, RecordFault};
 pub use shape::shape_digest;
 pub use writer::{spelled_len, write, write_pending};
+
+#[cfg(test)]
+mod tests;

@@ -21,6 +21,21 @@ const MOST_PAIRS: u16 = 4096;
 /// The most requests that all devices together may lose.
 const MOST_LOST: u32 = 400_000;
 
+// The places that are answered: where the tag stands, and the field that a test is of.
+const TAG_PLACE: u32 = 0;
+
+const NUMBER_PLACE: u32 = 1;
+
+const BELL_PLACE: u32 = 5;
+
+const ACCEPTED_PLACE: u32 = 1;
+
+const DONE_PLACE: u32 = 5;
+
+const LOST_PLACE: u32 = 9;
+
+const COUNT_PLACE: u32 = 1;
+
 // The number at a place, its highest byte first.
 #[tactic(auto, unfolding(crate::specs::Words::word_at))]
 fn u16_at(bytes: &[u8], place: usize) -> u16
@@ -66,7 +81,7 @@ fn read_page<'a>(desc: &Desc, bytes: &'a [u8]) -> Result<Rec<'a>, RecordFault>
     }
     let p = u32_at(bytes, 1);
     if p >= desc.pages {
-        return refused(1);
+        return refused(NUMBER_PLACE);
     }
     Ok(Rec::Page {
         p,
@@ -92,10 +107,10 @@ fn read_block<'a>(shape: &DevShape, bytes: &'a [u8]) -> Result<Rec<'a>, RecordFa
     }
     let b = u32_at(bytes, 1);
     if b >= shape.bar_bytes() / BLOCK {
-        return refused(1);
+        return refused(NUMBER_PLACE);
     }
     if !keeps_bell(b, bytes) {
-        return refused(5);
+        return refused(BELL_PLACE);
     }
     Ok(Rec::Block {
         b,
@@ -113,16 +128,16 @@ fn read_engine<'a>(shape: &DevShape, bytes: &'a [u8]) -> Result<Rec<'a>, RecordF
     }
     let accepted = u32_at(bytes, 1);
     if accepted > shape.budget {
-        return refused(1);
+        return refused(ACCEPTED_PLACE);
     }
     let done = u32_at(bytes, 5);
     let pend = u32_at(bytes, 13);
     if u64::from(done) + u64::from(pend) != u64::from(accepted) {
-        return refused(5);
+        return refused(DONE_PLACE);
     }
     let lost = u32_at(bytes, 9);
     if lost > MOST_LOST {
-        return refused(9);
+        return refused(LOST_PLACE);
     }
     Ok(Rec::Engine {
         accepted,
@@ -143,7 +158,7 @@ fn read_pending<'a>(bytes: &'a [u8]) -> Result<Rec<'a>, RecordFault>
     }
     let count = u16_at(bytes, 1);
     if count < 1 || count > MOST_PAIRS {
-        return refused(1);
+        return refused(COUNT_PLACE);
     }
     if bytes.len() != 3 + 8 * count as usize {
         return refused(bytes.len() as u32);
@@ -185,7 +200,7 @@ fn tested<'a>(desc: &Desc, stream: u32, bytes: &'a [u8]) -> Result<Rec<'a>, Reco
     ensures { Answers result (record_fault desc.now stream bytes.now) (record_at stream bytes.now) }
 {
     match tag_at(stream, bytes) {
-        None => refused(0),
+        None => refused(TAG_PLACE),
         Some(Tag::Page) => read_page(desc, bytes),
         Some(Tag::Block) => read_block(desc.devices.at(stream - 1), bytes),
         Some(Tag::Engine) => read_engine(desc.devices.at(stream - 1), bytes),
