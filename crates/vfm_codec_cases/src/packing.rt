@@ -1,6 +1,6 @@
 //! A record in its packet.
 
-ghost use Rattle.std.specs.Prelude.{◌≡◌, ℕ, ◌<◌, ◌^◌, ◌++◌, [], length, OnOk, IsTrue};
+ghost use Rattle.std.specs.Prelude.{◌≡◌, ℕ, ◌<◌, ◌^◌, ◌+◌, ◌++◌, length, vec_len, vec_capacity, OnOk, OnErr, IsTrue};
 ghost use Rattle.vfm_types.specs.declared.desc.Desc.{Desc};
 ghost use Rattle.vfm_types.specs.Valid.{IsValid};
 ghost use Rattle.vfm_packet.specs.declared.header.Header.{Header};
@@ -17,7 +17,7 @@ use vfm_packet::{Header, Kind, encode_head};
 use vfm_record::{Rec, size_of_a_record, spelled_len, write};
 use vfm_types::NoMemory;
 
-/// Appends the packet of a record, of version 1.
+/// Appends the packet of a record, of version 1. After want of memory a part of it may be appended.
 pub fn put_record(
     session: u64,
     kind: Kind,
@@ -27,7 +27,8 @@ pub fn put_record(
     out: &mut Vec<u8>,
 ) -> Result<(), NoMemory>
     requires { IsWritable r.now }
-    ensures { OnOk result (out.new.items ≡ out.old.items ++ packet_bytes (packed session kind stream index (record_of r.now))) }
+    ensures ok { OnOk result (out.new.items ≡ out.old.items ++ packet_bytes (packed session kind stream index (record_of r.now))) }
+    ensures full { OnErr result (vec_capacity out.old < vec_len out.old + (40 + length (spelling (record_of r.now)))) }
 {
     let head = Header {
         version: 1,
@@ -43,7 +44,8 @@ pub fn put_record(
 
 /// Appends the packet that ends a channel, of version 1.
 pub fn put_end(session: u64, out: &mut Vec<u8>) -> Result<(), NoMemory>
-    ensures { OnOk result (out.new.items ≡ out.old.items ++ head_bytes (record { version = 1; kind = kinds.End; session = session; stream = 0; index = 0; length = 0 })) }
+    ensures ok { OnOk result (out.new.items ≡ out.old.items ++ head_bytes (record { version = 1; kind = kinds.End; session = session; stream = 0; index = 0; length = 0 })) }
+    ensures full { OnErr result (vec_capacity out.old < vec_len out.old + 40) }
 {
     let head = Header {
         version: 1,
