@@ -5,12 +5,12 @@ ghost use Rattle.vfm_top.specs.declared.words.Form.TheVariants.{Run, Paths};
 ghost use Rattle.vfm_top.specs.Form.{form_of};
 ghost use Rattle.vfm_top.specs.Says.{bytes_read, Answers};
 
+use crate::Status;
 use crate::print::{
     print_bad_words, print_fault, print_moved, print_no_memory, print_path, print_read_fault,
     print_refused,
 };
 use crate::words::{Form, read_words};
-use crate::Status;
 use std::alloc::Global;
 use std::sync::Wait;
 use std::thread::Threads;
@@ -43,7 +43,7 @@ pub fn local<D: Source, R: Source, S: Sink>(
     ensures quiet { result ≡ None → (S.holds out.new ≡ S.holds out.old) × (S.faults out.new ≡ S.faults out.old) }
     ensures answer { MatchOption result (Unit {0}) (λ status. (form_of (map string_bytes words.now) ≢ Some Run)
         × ((bytes : Option (List ℕ)) (before now : ℕ) → Answers (form_of (map string_bytes words.now)) bytes before now status
-            (S.holds out.old) (S.faults out.old) (S.holds out.new) (S.faults out.new))) }
+        (S.holds out.old) (S.faults out.old) (S.holds out.new) (S.faults out.new))) }
     ensures desc_left { D.left desc.new ≡ D.left desc.old }
     ensures desc_faults { D.faults desc.new ≡ D.faults desc.old }
     ensures report_left { R.left report.new ≡ R.left report.old }

@@ -9,3 +9,6 @@ mod words;
 
 pub use call::{local, run};
 pub use status::{Doubt, Section, Status, number};
+
+#[cfg(test)]
+mod tests;

@@ -14,16 +14,19 @@ returns g c = λ before now.
     record {
       status = Moved;
       text = report_text desc (status_line Moved) (Some (moved_told moved.source.entries moved.joint moved.destination.entries moved.last));
-      says = (refl, record {
-        desc = desc;
-        source = moved.source.entries;
-        joint = moved.joint;
-        destination = moved.destination.entries;
-        last = moved.last;
-        described = c.in-Ok.ensures.value;
-        valid = c.in-Ok.ensures.valid;
-        move_made = record { joint_shape = c.in-Ok-move_one.ensures.joint_shape; last_shape = c.in-Ok-move_one.ensures.last_shape };
-        told = refl;
-      });
+      says = (
+        refl,
+        record {
+          desc = desc;
+          source = moved.source.entries;
+          joint = moved.joint;
+          destination = moved.destination.entries;
+          last = moved.last;
+          described = c.in-Ok.ensures.value;
+          valid = c.in-Ok.ensures.valid;
+          move_made = record { joint_shape = c.in-Ok-move_one.ensures.joint_shape; last_shape = c.in-Ok-move_one.ensures.last_shape };
+          told = refl;
+        },
+      );
       ends = c.print_moved.ensures;
     }

@@ -37,5 +37,5 @@ returns g c =
     let whole = take_all c.loop-i.i c.args.route.now (omega (arith, c.len-i-end.ensures.value)) in
     let before = rw whole at c.loop-i.invariant in
     MatchResult-weaker c.put-2.result c.put-2.ensures
-      (λ _ h. pen.more _ _ _ words (10 ∷ []) before h)
-      (λ _ h. pen.stop_after _ _ _ words (10 ∷ []) before h)
+    (λ _ h. pen.more _ _ _ words (10 ∷ []) before h)
+    (λ _ h. pen.stop_after _ _ _ words (10 ∷ []) before h)

@@ -1,0 +1,304 @@
+//! Whole runs from words to text: what they print, and how sources and sinks that fail end them.
+
+use crate::{Status, number, run};
+use std::alloc::Global;
+use std::sync::Wait;
+use std::test::Fail;
+use std::thread::Threads;
+use vfm_outside::{MemSink, MemSource, NoBeat, ScriptWires};
+
+const ONE: &str =
+    r#"{"session":7,"page":16,"pages":2,"channels":1,"version":1,"begin":99,"rounds":0,"threshold":0,"devices":[{"name":"a","flags":1,"bar":64,"window":1,"tells":true,"budget":1,"fails":0,"jobs":[{"kind":"write","at":18,"hex":"01020304"}],"queue":[0]}]}"#;
+
+const SOURCE: [&str; 14] = [
+    "status moved",
+    "journal source",
+    "issue 0 0",
+    "deliver 0 0",
+    "complete 0 0",
+    "begin",
+    "hold 0 STOP",
+    "arc 0 STOP",
+    "arc 0 STOP_COPY",
+    "joint",
+    "pass 1",
+    "copy 0",
+    "copy 1",
+    "block 0 0",
+];
+
+const STATE: [&str; 5] = [
+    "page 0 00000000000000000000000000000000",
+    "page 1 00000102030400000000000000000000",
+    "device 0 a accepted 1 done 1 lost 0",
+    "buf 0 00000000000000000000000000000000000000000000000000000000000000000000000000000000000000000000000000000000000000000000000000000000",
+    "bar 0 00000000000000000000000000000000000000000000000000000000000000000000000000000000000000000000000000000000000000000000000000000000",
+];
+
+const DESTINATION: [&str; 4] = [
+    "journal destination",
+    "resume",
+    "arc 0 STOP",
+    "arc 0 RUNNING",
+];
+
+// Puts lines behind a text.
+fn add_lines(text: &mut Vec<u8>, lines: &[&str]) -> Result<(), Fail> {
+    for line in lines {
+        text.extend_from_slice(line.as_bytes())?;
+        text.push(10)?;
+    }
+    Ok(())
+}
+
+// The report of the machine `ONE`.
+fn report_of_one(alloc: Global) -> Result<Vec<u8>, Fail> {
+    let mut text = Vec::new(alloc);
+    add_lines(&mut text, &SOURCE)?;
+    add_lines(&mut text, &["state joint"])?;
+    add_lines(&mut text, &STATE)?;
+    add_lines(&mut text, &DESTINATION)?;
+    add_lines(&mut text, &["state final"])?;
+    add_lines(&mut text, &STATE)?;
+    add_lines(&mut text, &["end"])?;
+    Ok(text)
+}
+
+// Runs these words, with a source of this text whose reads of these numbers fail.
+fn run_words<H: Threads + Wait + Sync>(
+    rt: &H,
+    alloc: Global,
+    words: &[&str],
+    text: &str,
+    failing: &[u32],
+    out: &mut MemSink,
+) -> Result<Status, Fail> {
+    let mut list = Vec::new(alloc);
+    for word in words {
+        list.push(String::from_str(alloc, word)?)?;
+    }
+    let mut desc = MemSource::of(text.as_bytes().to_vec(alloc)?, failing.to_vec(alloc)?, 100);
+    let mut report = MemSource::of(Vec::new(alloc), Vec::new(alloc), 1);
+    let mut wires = ScriptWires::of(alloc, None);
+    Ok(run(
+        rt,
+        alloc,
+        list.as_slice(),
+        &mut desc,
+        &mut report,
+        &mut wires,
+        out,
+        &NoBeat,
+    ))
+}
+
+// A sink with ample room.
+fn ample(alloc: Global) -> Result<MemSink, Fail> {
+    Ok(MemSink::of(alloc, 4096, Vec::new(alloc), 1000)?)
+}
+
+// Whether these words with this description end with this status and print this text alone.
+fn is_answered<H: Threads + Wait + Sync>(
+    rt: &H,
+    alloc: Global,
+    words: &[&str],
+    desc: &str,
+    status: u8,
+    text: &str,
+) -> Result<bool, Fail> {
+    let mut out = ample(alloc)?;
+    let answer = run_words(rt, alloc, words, desc, &[], &mut out)?;
+    Ok(number(&answer) == status && out.bytes() == text.as_bytes())
+}
+
+#[test]
+fn one_machine_is_moved(rt: HostRuntime) -> Result<(), Fail> {
+    let alloc = rt.alloc();
+    let mut out = ample(alloc)?;
+    let status = run_words(&rt, alloc, &["run", "one.json"], ONE, &[], &mut out)?;
+    assert_eq!(rt; number(&status), 0);
+    assert_eq!(rt; out.bytes(), report_of_one(alloc)?.as_slice());
+    Ok(())
+}
+
+#[test]
+fn words_without_a_form_are_refused(rt: HostRuntime) -> Result<(), Fail> {
+    let alloc = rt.alloc();
+    let refused = "status bad-words\n";
+    assert!(rt; is_answered(&rt, alloc, &[], ONE, 1, refused)?);
+    assert!(rt; is_answered(&rt, alloc, &["run"], ONE, 1, refused)?);
+    assert!(rt; is_answered(&rt, alloc, &["run", ""], ONE, 1, refused)?);
+    assert!(rt; is_answered(&rt, alloc, &["run", "x", "y"], ONE, 1, refused)?);
+    assert!(rt; is_answered(&rt, alloc, &["load", "007"], ONE, 1, refused)?);
+    assert!(rt;
+        is_answered(
+            &rt,
+            alloc,
+            &["paths", "RUNNING", "STOP", "2"],
+            ONE,
+            1,
+            refused
+        )?
+    );
+    assert!(rt;
+        is_answered(
+            &rt,
+            alloc,
+            &["paths", "RUNNINGS", "STOP", "1"],
+            ONE,
+            1,
+            refused
+        )?
+    );
+    Ok(())
+}
+
+// Whether this path is asked for and printed so.
+fn is_path<H: Threads + Wait + Sync>(
+    rt: &H,
+    alloc: Global,
+    ends: (&str, &str, &str),
+    status: u8,
+    text: &str,
+) -> Result<bool, Fail> {
+    is_answered(
+        rt,
+        alloc,
+        &["paths", ends.0, ends.1, ends.2],
+        "",
+        status,
+        text,
+    )
+}
+
+#[test]
+fn paths_are_printed(rt: HostRuntime) -> Result<(), Fail> {
+    let alloc = rt.alloc();
+    assert!(rt;
+        is_path(
+            &rt,
+            alloc,
+            ("PRE_COPY", "RUNNING_P2P", "7"),
+            0,
+            "path PRE_COPY RUNNING RUNNING_P2P\n"
+        )?
+    );
+    assert!(rt;
+        is_path(
+            &rt,
+            alloc,
+            ("RUNNING", "STOP", "1"),
+            0,
+            "path RUNNING STOP\n"
+        )?
+    );
+    assert!(rt;
+        is_path(
+            &rt,
+            alloc,
+            ("PRE_COPY", "RESUMING", "7"),
+            0,
+            "path PRE_COPY RUNNING RUNNING_P2P STOP RESUMING\n"
+        )?
+    );
+    assert!(rt;
+        is_path(
+            &rt,
+            alloc,
+            ("RUNNING", "STOP_COPY", "7"),
+            0,
+            "path RUNNING RUNNING_P2P STOP STOP_COPY\n"
+        )?
+    );
+    assert!(rt;
+        is_path(
+            &rt,
+            alloc,
+            ("PRE_COPY", "STOP_COPY", "7"),
+            0,
+            "path PRE_COPY PRE_COPY_P2P STOP_COPY\n"
+        )?
+    );
+    assert!(rt; is_path(&rt, alloc, ("RUNNING", "RUNNING", "1"), 0, "path RUNNING\n")?);
+    Ok(())
+}
+
+#[test]
+fn refused_paths_tell_why(rt: HostRuntime) -> Result<(), Fail> {
+    let alloc = rt.alloc();
+    assert!(rt;
+        is_path(
+            &rt,
+            alloc,
+            ("STOP_COPY", "PRE_COPY", "7"),
+            14,
+            "refused forbidden STOP_COPY PRE_COPY\n"
+        )?
+    );
+    assert!(rt;
+        is_path(
+            &rt,
+            alloc,
+            ("RUNNING", "PRE_COPY", "3"),
+            14,
+            "refused unsupported PRE_COPY\n"
+        )?
+    );
+    assert!(rt;
+        is_path(
+            &rt,
+            alloc,
+            ("ERROR", "RUNNING", "7"),
+            14,
+            "refused from-error\n"
+        )?
+    );
+    Ok(())
+}
+
+#[test]
+fn faulty_descriptions_are_refused(rt: HostRuntime) -> Result<(), Fail> {
+    let alloc = rt.alloc();
+    let words = ["run", "one.json"];
+    assert!(rt;
+        is_answered(
+            &rt,
+            alloc,
+            &words,
+            "{",
+            2,
+            "status bad-description not-json\n"
+        )?
+    );
+    assert!(rt;
+        is_answered(
+            &rt,
+            alloc,
+            &words,
+            "{}",
+            2,
+            "status bad-description missing session\n"
+        )?
+    );
+    Ok(())
+}
+
+#[test]
+fn a_failed_read_is_told(rt: HostRuntime) -> Result<(), Fail> {
+    let alloc = rt.alloc();
+    let mut out = ample(alloc)?;
+    let status = run_words(&rt, alloc, &["run", "one.json"], ONE, &[0], &mut out)?;
+    assert_eq!(rt; number(&status), 3);
+    assert_eq!(rt; out.bytes(), b"status read-fault\n".as_slice());
+    Ok(())
+}
+
+#[test]
+fn a_failed_write_leaves_a_front(rt: HostRuntime) -> Result<(), Fail> {
+    let alloc = rt.alloc();
+    let mut out = MemSink::of(alloc, 4096, [2u32].to_vec(alloc)?, 16)?;
+    let status = run_words(&rt, alloc, &["run", "one.json"], ONE, &[], &mut out)?;
+    assert_eq!(rt; number(&status), 4);
+    assert_eq!(rt; out.bytes(), &report_of_one(alloc)?.as_slice()[..32]);
+    Ok(())
+}
