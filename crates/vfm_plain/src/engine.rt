@@ -1,6 +1,6 @@
 //! One device of the plain machine.
 
-ghost use Rattle.std.specs.Prelude.{◌≡◌, ◌+◌, ◌<◌, ◌≤◌, ◌^◌, ◌↔◌, length, drop, remove, vec_len, vec_capacity, IfOk, IsTrue};
+ghost use Rattle.std.specs.Prelude.{◌≡◌, [], ◌∷◌, ◌++◌, ◌+◌, ◌<◌, ◌≤◌, ◌^◌, ◌↔◌, length, drop, remove, vec_len, vec_capacity, IfOk, IsTrue};
 ghost use Rattle.vfm_types.specs.Machine.{described_device, numbered, splice, rung};
 
 use crate::sheet::{Sheet, put_bytes, same_bytes};
@@ -146,6 +146,38 @@ impl Engine {
         } else {
             self.lost += 1;
         }
+    }
+
+    /// Starts anew with so many requests done and so many lost, and none pending.
+    pub fn restart(&mut self, done: u32, lost: u32)
+        requires { done ≤ 50000 }
+        ensures { self.new ≡ record self.old { pending = []; accepted = done; done = done; lost = lost } }
+    {
+        spend_requests(&mut self.requests, done as usize);
+        self.done = done;
+        self.lost = lost;
+    }
+
+    /// Adds a request behind the pending ones.
+    pub fn add_pending(&mut self, number: u32, job: u32)
+        requires { self.old.accepted < 50000 }
+        ensures { self.new ≡ record self.old { pending = self.old.pending ++ (number, job) ∷ []; accepted = self.old.accepted + 1 } }
+    {
+        self.requests.push_reserved((number, job));
+    }
+}
+
+/// Makes the list one of so many requests that don't matter, and keeps its room.
+fn spend_requests(requests: &mut Vec<(u32, u32)>, done: usize)
+    requires few { done ≤ 50000 }
+    requires room { 50000 ≤ vec_capacity requests.old }
+    ensures count { vec_len requests.new ≡ done }
+    ensures none { drop done requests.new.items ≡ [] }
+    ensures room { 50000 ≤ vec_capacity requests.new }
+{
+    requests.clear();
+    for _i in 0..done {
+        requests.push_reserved((0, 0));
     }
 }
 

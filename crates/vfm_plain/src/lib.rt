@@ -3,6 +3,7 @@
 
 mod engine;
 mod laws;
+mod parts;
 mod plain;
 mod sheet;
 mod window;

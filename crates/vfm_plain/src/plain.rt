@@ -22,8 +22,8 @@ pub struct NotEnabled;
 /// The plain machine: pages of memory, and devices that do one request at a time. Seen as a machine.
 #[derive(Drop)]
 pub struct Plain {
-    pages: Vec<Sheet>,
-    devices: Vec<Engine>,
+    pub(crate) pages: Vec<Sheet>,
+    pub(crate) devices: Vec<Engine>,
 }
 
 impl Model for Plain {

@@ -1,0 +1,6 @@
+pub mod Words
+pub mod Record
+pub mod Tests
+pub mod Writing
+pub mod Hashing
+pub mod Shape

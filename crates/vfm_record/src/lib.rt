@@ -1,0 +1,26 @@
+//! The records that carry a machine's state in the payloads of packets: how each is spelled, which bytes are refused and
+//! at which place, and the digest by which both ends of a move find out whether they have the same machine.
+//!
+//! The format stands in `specs/`: `Record` has the records, their spelling and which of them a stream can have, `Tests`
+//! the tests of some bytes in their order and what bytes say that pass them, `Writing` which records can be written, and
+//! `Shape` the text that the digest is of. The laws that join them are the functions of `laws.rt`. Only writing takes
+//! memory.
+#![tactic(auto)]
+
+mod laws;
+mod reader;
+mod record;
+mod shape;
+mod tag;
+mod writer;
+
+pub use laws::{
+    one_spelling, read_is_written, size_of_a_record, what_can_be_written, written_is_read,
+};
+pub use reader::{pending_at, read};
+pub use record::{Rec, RecordFault};
+pub use shape::shape_digest;
+pub use writer::{spelled_len, write, write_pending};
+
+#[cfg(test)]
+mod tests;

@@ -1,0 +1,48 @@
+use Rattle.std.proofs.Common.{◌≡◌, ℕ, ◌+◌, ◌*◌, ◌<◌, ◌≤◌, List, [], ◌++◌, length, sym, ap, ◌∙◌, subst, arith, append_assoc, mul_comm}
+use Rattle.vfm_types.specs.Desc.{device_count}
+use Rattle.vfm_types.specs.Machine.{Machine, device_of}
+use Rattle.vfm_solo.specs.Image.{flat, image, device_bytes}
+use Rattle.vfm_solo.proofs.Bytes.{length-flat}
+use Rattle.vfm_solo.proofs.Loads.{pages_sized}
+use Rattle.vfm_solo.proofs.engine.Engine.hand_over.Goals as goal
+
+pub copy_pages-requires-clause-space : goal.copy_pages-requires-clause-space
+copy_pages-requires-clause-space c =
+    let plain : c.note-2.new.self.plain ≡ c.stop.new.self.plain = c.note-2.ensures.plain ∙ c.note.ensures.plain in
+    let count : length (flat c.note-2.new.self.plain.pages) ≡ c.args.desc.now.pages * c.args.desc.now.page =
+    ap (λ (m : Machine). length (flat m.pages)) plain
+    ∙ length-flat c.args.desc.now.page c.stop.new.self.plain.pages (pages_sized c.args.desc.now c.stop.new.self.plain c.stop.ensures.ready.sound.shape)
+    ∙ ap (λ (n : ℕ). n * c.args.desc.now.page) c.stop.ensures.ready.sound.shape.pages in
+    omega (arith, count)
+
+pub read_blocks-requires-clause-space : goal.read_blocks-requires-clause-space
+read_blocks-requires-clause-space c =
+    let plain : c.note-2.new.self.plain ≡ c.stop.new.self.plain = c.note-2.ensures.plain ∙ c.note.ensures.plain in
+    let count : length (flat c.note-2.new.self.plain.pages) ≡ c.args.desc.now.pages * c.args.desc.now.page =
+    ap (λ (m : Machine). length (flat m.pages)) plain
+    ∙ length-flat c.args.desc.now.page c.stop.new.self.plain.pages (pages_sized c.args.desc.now c.stop.new.self.plain c.stop.ensures.ready.sound.shape)
+    ∙ ap (λ (n : ℕ). n * c.args.desc.now.page) c.stop.ensures.ready.sound.shape.pages in
+    omega (arith, count)
+
+pub append_device-requires-clause-room : goal.append_device-requires-clause-room
+append_device-requires-clause-room c =
+    let first : 0 < device_count c.args.desc.now = omega (arith, c.requires.solo.count) in
+    let plain : c.note-2.new.self.plain ≡ c.stop.new.self.plain = c.note-2.ensures.plain ∙ c.note.ensures.plain in
+    let same : c.read_blocks.new.self.plain ≡ c.stop.new.self.plain = c.read_blocks.ensures.plain ∙ c.copy_pages.ensures.plain ∙ plain in
+    let count : length (flat c.note-2.new.self.plain.pages) ≡ c.args.desc.now.pages * c.args.desc.now.page =
+    ap (λ (m : Machine). length (flat m.pages)) plain
+    ∙ length-flat c.args.desc.now.page c.stop.new.self.plain.pages (pages_sized c.args.desc.now c.stop.new.self.plain c.stop.ensures.ready.sound.shape)
+    ∙ ap (λ (n : ℕ). n * c.args.desc.now.page) c.stop.ensures.ready.sound.shape.pages in
+    let counts = c.stop.ensures.ready.sound.counts 0 first in
+    omega (arith, count, counts.accepted, counts.within, ap (λ (m : Machine). length (device_of m 0).pending) same)
+
+pub returns-clause-image : goal.returns-clause-image
+returns-clause-image c =
+    let p = c.read_blocks.new.self.plain in
+    let device = device_bytes (device_of p 0) in
+    let q = c.copy_pages.new.self.plain in
+    let one : c.copy_pages.new.outbox.items ≡ flat q.pages =
+    c.copy_pages.ensures.items ∙ ap (λ (bytes : List ℕ). bytes ++ flat c.note-2.new.self.plain.pages) c.requires.empty ∙ ap (λ (m : Machine). flat m.pages) (sym c.copy_pages.ensures.plain) in
+    let two : c.read_blocks.new.outbox.items ≡ flat p.pages ++ (device_of p 0).bar =
+    c.read_blocks.ensures.items ∙ ap (λ (bytes : List ℕ). bytes ++ (device_of q 0).bar) one ∙ ap (λ (m : Machine). flat m.pages ++ (device_of m 0).bar) (sym c.read_blocks.ensures.plain) in
+    c.append_device.ensures.items ∙ ap (λ (bytes : List ℕ). bytes ++ device) two ∙ append_assoc (flat p.pages) (device_of p 0).bar device

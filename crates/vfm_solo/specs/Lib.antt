@@ -1,0 +1,4 @@
+pub mod Solo
+pub mod Ready
+pub mod Image
+pub mod Worked
