@@ -1,12 +1,20 @@
 //! The move as a whole.
 
-ghost use Rattle.std.specs.Prelude.{◌≡◌, ◌+◌, ◌*◌, ◌≤◌, ◌<◌, ◌++◌, [], ℕ, length, reverse, IfOk, Some, vec_len, vec_capacity};
+ghost use Rattle.std.specs.Prelude.{◌≡◌, ◌+◌, ◌*◌, ◌≤◌, ◌<◌, ◌++◌, [], ℕ, List, length, reverse, IfOk, Some, slice_get, IsTrue, IsFalse, vec_len, vec_capacity};
 ghost use Rattle.vfm_types.specs.Desc.{shape_at, bar_bytes, block_count};
 ghost use Rattle.vfm_types.specs.Machine.{device_of, described};
 ghost use Rattle.vfm_types.specs.Valid.{IsValid};
 ghost use Rattle.vfm_plain.specs.Shape.{HasShape, IsSound};
 ghost use Rattle.vfm_solo.specs.declared.engine.Flight.TheVariants.{Empty};
+ghost use Rattle.vfm_types.specs.declared.entry.Entry.{Entry as Item};
+ghost use Rattle.vfm_types.specs.declared.entry.Entry.TheVariants.{Resume};
+ghost use Rattle.vfm_types.specs.Requests.{plain};
+ghost use Rattle.vfm_types.specs.Deliveries.{delivers};
+ghost use Rattle.vfm_types.specs.Phases.{is_aborted, is_failed};
+ghost use Rattle.vfm_plain.specs.Legal.{IsLegal};
+ghost use Rattle.vfm_plain.specs.Ended.{has_ended, is_last_ended};
 ghost use Rattle.vfm_solo.specs.Solo.{IsSolo};
+ghost use Rattle.vfm_solo.specs.Follows.{Follows, Unpassed, InPass, past_of, before_joint, waiting_stage};
 ghost use Rattle.vfm_solo.specs.Image.{flat, image, AllFit, device_bytes};
 ghost use Rattle.vfm_solo.specs.Ready.{IsReady, HasRoom, most_reach};
 
@@ -84,6 +92,9 @@ impl Engine {
         ensures ready { IsReady desc.now self.new }
         ensures image { outbox.new.items ≡ image self.new.plain }
         ensures fit { AllFit (device_of self.new.plain 0).pending }
+        ensures still { self.new.flight ≡ Empty }
+        ensures pass { (before : List Item) → Follows desc.now (past_of before self.old) waiting_stage self.old → Unpassed desc.now (past_of before self.old)
+            → InPass desc.now (past_of before self.new) desc.now.pages (block_count (shape_at desc.now 0)) self.new }
     {
         self.stop(desc);
         self.note(Entry::Joint);
@@ -102,6 +113,13 @@ pub fn move_one(alloc: Global, desc: &Desc) -> Result<Moved, NoMemory>
     requires solo { IsSolo desc.now }
     ensures joint_shape { IfOk result (λ moved. HasShape desc.now moved.joint) }
     ensures last_shape { IfOk result (λ moved. HasShape desc.now moved.last) }
+    ensures legal { IfOk result (λ moved. IsLegal desc.now (reverse (moved.source.entries ++ moved.destination.entries))) }
+    ensures joint { IfOk result (λ moved. plain desc.now (delivers (before_joint moved.source.entries)) ≡ Some moved.joint) }
+    ensures last { IfOk result (λ moved. plain desc.now (delivers (moved.source.entries ++ moved.destination.entries)) ≡ Some moved.last) }
+    ensures source_end { IfOk result (λ moved. IsTrue (is_last_ended desc.now (reverse moved.source.entries))) }
+    ensures kept { IfOk result (λ moved. IsFalse (is_aborted (reverse moved.source.entries)) × IsFalse (is_failed (reverse moved.source.entries))) }
+    ensures destination_begin { IfOk result (λ moved. slice_get moved.destination.entries 0 ≡ Some Resume) }
+    ensures ended { IfOk result (λ moved. IsTrue (has_ended desc.now (reverse (moved.source.entries ++ moved.destination.entries)))) }
 {
     let mut source = Engine::of(alloc, desc, source_entries(desc))?;
     let mut destination = Engine::of(alloc, desc, 3)?;

@@ -1,12 +1,14 @@
 //! The source's part of the move: the machine runs, stops, and is copied.
 
-ghost use Rattle.std.specs.Prelude.{◌≡◌, ◌+◌, ◌-◌, ◌*◌, ◌<◌, ◌≤◌, ◌∷◌, ◌++◌, [], ℕ, length, true, false, slice_get, Some, None, IsTrue, IsFalse, ◌⊎◌, vec_len, vec_capacity, take};
+ghost use Rattle.std.specs.Prelude.{◌≡◌, ◌+◌, ◌-◌, ◌*◌, ◌<◌, ◌≤◌, ◌∷◌, ◌++◌, [], ℕ, List, length, true, false, slice_get, Some, None, IsTrue, IsFalse, ◌⊎◌, vec_len, vec_capacity, take};
 ghost use Rattle.vfm_types.specs.Desc.{shape_at, bar_bytes, block_count};
 ghost use Rattle.vfm_types.specs.Machine.{device_of};
 ghost use Rattle.vfm_types.specs.Paths.{path_refusal, next_towards};
 ghost use Rattle.vfm_types.specs.Valid.{IsValid};
 ghost use Rattle.vfm_solo.specs.declared.engine.Flight.TheVariants.{Empty};
+ghost use Rattle.vfm_types.specs.declared.entry.Entry.{Entry as Item};
 ghost use Rattle.vfm_solo.specs.Solo.{IsSolo};
+ghost use Rattle.vfm_solo.specs.Follows.{Stage, Follows, Unpassed, IsRunning, InPass, past_of, waiting_stage, readable};
 ghost use Rattle.vfm_solo.specs.Image.{flat};
 ghost use Rattle.vfm_solo.specs.Ready.{IsReady, IsOnward, HasRoom, reach_of, completed_of};
 
@@ -74,6 +76,9 @@ impl Engine {
         requires ready { IsReady desc.now self.old }
         ensures ready { IsReady desc.now self.new }
         ensures onward { IsOnward self.old self.new }
+        ensures follows { (before : List Item) (stage : Stage) → Follows desc.now (past_of before self.old) stage self.old
+            → IsRunning stage → Follows desc.now (past_of before self.new) stage self.new }
+        ensures unpassed { (before : List Item) → Unpassed desc.now (past_of before self.old) → Unpassed desc.now (past_of before self.new) }
         ensures begins { (desc.now.begin ≤ completed_of self.new) ⊎ ((self.new.flight ≡ Empty) × ((device_of self.new.plain 0).pending ≡ [])) }
     {
         while !self.may_begin(desc) {
@@ -92,6 +97,9 @@ impl Engine {
         ensures made { length self.new.journal.entries + reach_of self.old ≡ length self.old.journal.entries + 4 + reach_of self.new }
         ensures room { self.new.journal.room ≡ self.old.journal.room }
         ensures empty { self.new.flight ≡ Empty }
+        ensures follows { (before : List Item) → Follows desc.now (past_of before self.old) waiting_stage self.old
+            → Follows desc.now (past_of before self.new) readable self.new }
+        ensures unpassed { (before : List Item) → Unpassed desc.now (past_of before self.old) → Unpassed desc.now (past_of before self.new) }
     {
         self.await_begin(desc);
         self.note(Entry::Begin);
@@ -126,6 +134,8 @@ impl Engine {
         ensures items { outbox.new.items ≡ outbox.old.items ++ flat self.old.plain.pages }
         ensures used { vec_len outbox.new ≡ vec_len outbox.old + length (flat self.old.plain.pages) }
         ensures space { vec_capacity outbox.old ≤ vec_capacity outbox.new }
+        ensures pass { (before : List Item) → InPass desc.now (past_of before self.old) 0 0 self.old
+            → InPass desc.now (past_of before self.new) desc.now.pages 0 self.new }
     {
         for p in 0..desc.pages {
             self.note(Entry::Copy { p });
@@ -147,6 +157,8 @@ impl Engine {
         ensures items { outbox.new.items ≡ outbox.old.items ++ (device_of self.old.plain 0).bar }
         ensures used { vec_len outbox.new ≡ vec_len outbox.old + bar_bytes (shape_at desc.now 0) }
         ensures space { vec_capacity outbox.old ≤ vec_capacity outbox.new }
+        ensures pass { (before : List Item) → InPass desc.now (past_of before self.old) desc.now.pages 0 self.old
+            → InPass desc.now (past_of before self.new) desc.now.pages (block_count (shape_at desc.now 0)) self.new }
     {
         let blocks = desc.devices.at(0).bar / 64;
         for b in 0..blocks {

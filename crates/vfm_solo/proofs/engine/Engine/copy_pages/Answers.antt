@@ -1,6 +1,10 @@
 use Rattle.std.proofs.Common.{◌≡◌, ℕ, suc, ◌+◌, ◌<◌, List, [], ◌++◌, length, take, slice_index_or, ap, ◌∙◌, sym, arith, add-one, append_assoc, length-append}
 use Rattle.vfm_types.specs.Machine.{Machine}
+use Rattle.vfm_types.specs.declared.entry.Entry.TheVariants.{Copy}
 use Rattle.vfm_solo.specs.Image.{flat}
+use Rattle.vfm_solo.specs.Follows.{past_of}
+use Rattle.vfm_solo.proofs.Requests.{in_pass_more}
+use Rattle.vfm_solo.proofs.Copies.{copy_in_pass}
 use Rattle.vfm_solo.proofs.Bytes.{flat_more, flat_within}
 use Rattle.vfm_solo.proofs.engine.Engine.copy_pages.Goals as goal
 
@@ -29,6 +33,7 @@ append-requires c =
 
 pub loop-p-preserved : goal.loop-p-preserved
 loop-p-preserved c =
+    let p = c.loop-p.p in
     let pages = c.args.self.now.plain.pages in
     let h : c.loop-p.p < length pages = omega (arith, c.requires.ready.sound.shape.pages) in
     let page : c.page.result.now ≡ slice_index_or pages c.loop-p.p [] =
@@ -40,5 +45,9 @@ loop-p-preserved c =
       count = omega arith;
       items = one_more c.args.outbox.now.items pages c.loop-p.p c.loop-p.outbox.items c.page.result.now c.append.new.outbox.items h c.loop-p.invariant.items page c.append.ensures.items;
       used = one_more_used _ 0 pages c.loop-p.p _ _ c.page.result.now h c.loop-p.invariant.used page c.append.ensures.count;
+      pass = λ before i.
+          let older = c.loop-p.invariant.pass before i in
+          in_pass_more c.args.desc.now before (p + 1) 0 c.loop-p.self c.note.new.self (Copy p) c.note.ensures.journal
+          (copy_in_pass c.args.desc.now (past_of before c.loop-p.self) c.loop-p.self c.note.new.self p c.requires.solo c.loop-p-test.true older c.note.ensures.plain c.note.ensures.flight);
       space = omega arith;
     }

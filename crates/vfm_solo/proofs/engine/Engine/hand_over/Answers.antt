@@ -1,6 +1,11 @@
-use Rattle.std.proofs.Common.{◌≡◌, ℕ, ◌+◌, ◌*◌, ◌<◌, ◌≤◌, List, [], ◌++◌, length, sym, ap, ◌∙◌, subst, arith, append_assoc, mul_comm}
+use Rattle.std.proofs.Common.{◌≡◌, ℕ, ◌+◌, ◌*◌, ◌<◌, ◌≤◌, List, [], ◌∷◌, ◌++◌, length, sym, ap, ◌∙◌, subst, arith, append_assoc, mul_comm}
 use Rattle.vfm_types.specs.Desc.{device_count}
 use Rattle.vfm_types.specs.Machine.{Machine, device_of}
+use Rattle.vfm_types.specs.declared.entry.Entry.{Entry}
+use Rattle.vfm_types.specs.declared.entry.Entry.TheVariants.{Pass, Joint}
+use Rattle.vfm_solo.specs.Follows.{InPass, past_of}
+use Rattle.vfm_solo.proofs.Requests.{past_more}
+use Rattle.vfm_solo.proofs.Copies.{pass_begins}
 use Rattle.vfm_solo.specs.Image.{flat, image, device_bytes}
 use Rattle.vfm_solo.proofs.Bytes.{length-flat}
 use Rattle.vfm_solo.proofs.Loads.{pages_sized}
@@ -46,3 +51,17 @@ returns-clause-image c =
     let two : c.read_blocks.new.outbox.items ≡ flat p.pages ++ (device_of p 0).bar =
     c.read_blocks.ensures.items ∙ ap (λ (bytes : List ℕ). bytes ++ (device_of q 0).bar) one ∙ ap (λ (m : Machine). flat m.pages ++ (device_of m 0).bar) (sym c.read_blocks.ensures.plain) in
     c.append_device.ensures.items ∙ ap (λ (bytes : List ℕ). bytes ++ device) two ∙ append_assoc (flat p.pages) (device_of p 0).bar device
+
+pub returns-clause-pass : goal.returns-clause-pass
+returns-clause-pass c = λ before h u.
+    let D = c.args.desc.now in
+    let e0 = c.stop.new.self in
+    let e1 = c.note.new.self in
+    let e2 = c.note-2.new.self in
+    let follows = c.stop.ensures.follows before h in
+    let unpassed = c.stop.ensures.unpassed before u in
+    let begun : InPass D (Pass 1 ∷ Joint ∷ past_of before e0) 0 0 e2 =
+    pass_begins D (past_of before e0) e0 e1 e2 c.requires.solo follows unpassed c.note.ensures.plain c.note.ensures.flight c.note-2.ensures.plain c.note-2.ensures.flight in
+    let past : past_of before e2 ≡ Pass 1 ∷ Joint ∷ past_of before e0 =
+    past_more before e1 e2 (Pass 1) c.note-2.ensures.journal ∙ ap (λ (list : List Entry). Pass 1 ∷ list) (past_more before e0 e1 Joint c.note.ensures.journal) in
+    c.read_blocks.ensures.pass before (c.copy_pages.ensures.pass before (subst (λ (list : List Entry). InPass D list 0 0 e2) (sym past) begun))

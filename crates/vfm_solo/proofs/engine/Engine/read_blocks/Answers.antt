@@ -1,7 +1,11 @@
-use Rattle.std.proofs.Common.{◌≡◌, ℕ, ◌+◌, ◌-◌, ◌*◌, ◌/◌, ◌<◌, ◌≤◌, List, ◌++◌, length, take, drop, ap, ◌∙◌, sym, arith, append_assoc, length-append, take-add, length-take, length-drop}
+use Rattle.std.proofs.Common.{◌≡◌, ℕ, ◌+◌, ◌-◌, ◌*◌, ◌/◌, ◌<◌, ◌≤◌, List, ◌++◌, length, take, drop, ap, ◌∙◌, sym, subst, arith, append_assoc, length-append, take-add, length-take, length-drop}
 use Rattle.vfm_types.specs.Machine.{Machine, device_of}
-use Rattle.vfm_types.specs.Desc.{device_count, shape_at, bar_bytes}
+use Rattle.vfm_types.specs.Desc.{device_count, shape_at, bar_bytes, block_count}
 use Rattle.vfm_types.specs.declared.desc.DevShape.{DevShape}
+use Rattle.vfm_types.specs.declared.entry.Entry.TheVariants.{Block}
+use Rattle.vfm_solo.specs.Follows.{InPass, past_of}
+use Rattle.vfm_solo.proofs.Requests.{in_pass_more}
+use Rattle.vfm_solo.proofs.Copies.{block_in_pass}
 use Rattle.vfm_solo.proofs.Bytes.{whole_blocks}
 use Rattle.vfm_solo.proofs.engine.Engine.read_blocks.Goals as goal
 
@@ -33,5 +37,16 @@ loop-b-preserved c =
       count = omega arith;
       items = one_more c.args.outbox.now.items bar c.loop-b.b c.loop-b.outbox.items c.bar-bar.result.now c.append.new.outbox.items c.loop-b.invariant.items lent c.append.ensures.items;
       used = omega (arith, c.append.ensures.count, ap length lent, length-take (64 * c.loop-b.b + 64 - 64 * c.loop-b.b) (drop (64 * c.loop-b.b) c.bar-bar.result.now), length-drop (64 * c.loop-b.b) c.bar-bar.result.now);
+      pass = λ before i.
+          let older = c.loop-b.invariant.pass before i in
+          in_pass_more c.args.desc.now before c.args.desc.now.pages (c.loop-b.b + 1) c.loop-b.self c.note.new.self (Block 0 c.loop-b.b) c.note.ensures.journal
+          (block_in_pass c.args.desc.now (past_of before c.loop-b.self) c.loop-b.self c.note.new.self c.loop-b.b c.requires.solo (omega (arith, size)) older c.note.ensures.plain c.note.ensures.flight);
       space = omega arith;
     }
+
+pub returns-clause-pass : goal.returns-clause-pass
+returns-clause-pass c = λ before i.
+    let shape : c.at.result.now ≡ shape_at c.args.desc.now 0 = c.at.ensures.value _ in
+    let size : c.at.result.now.bar ≡ bar_bytes (shape_at c.args.desc.now 0) = ap (λ (s : DevShape). s.bar) shape in
+    let end : c.loop-b.b ≡ block_count (shape_at c.args.desc.now 0) = omega (arith, size) in
+    subst (λ (b : ℕ). InPass c.args.desc.now (past_of before c.loop-b.self) c.args.desc.now.pages b c.loop-b.self) end (c.loop-b.invariant.pass before i)
