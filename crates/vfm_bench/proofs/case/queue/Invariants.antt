@@ -1,3 +1,4 @@
+-- The list has as many items as requests were queued.
 use Rattle.std.proofs.Common.{◌≡◌, vec_len}
 use Rattle.vfm_bench.proofs.case.queue.Given as goal
 

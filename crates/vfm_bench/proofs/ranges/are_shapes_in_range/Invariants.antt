@@ -1,3 +1,4 @@
+-- The devices before this one are in range.
 use Rattle.std.proofs.Common.{ℕ, ◌<◌, slice_index_or}
 use Rattle.vfm_types.specs.Desc.{no_shape}
 use Rattle.vfm_types.specs.Valid.{ShapeInRange}
