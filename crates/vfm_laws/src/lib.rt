@@ -19,7 +19,8 @@ pub use prefixes::{
     before_is_legal, broken_is_first, one_more_is_broken, one_more_is_legal, unbroken_is_legal,
 };
 pub use queue::{
-    accepted_is_done_or_pending, queues_are_kept, undelivered_are_first, window_and_fences_hold,
+    accepted_is_done_or_pending, outstanding_numbers_differ, queues_are_kept,
+    undelivered_are_enabled, undelivered_are_first, window_and_fences_hold,
 };
 pub use states::{
     barred_is_running, joint_is_still, outstanding_is_awake, states_are_kept, stopped_beside_tame,

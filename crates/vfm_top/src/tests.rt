@@ -111,6 +111,7 @@ fn is_answered<H: Threads + Wait + Sync>(
     Ok(number(&answer) == status && out.bytes() == text.as_bytes())
 }
 
+// No clause refuses a run that answers `no-memory` where there is enough; this test does.
 #[test]
 fn one_machine_is_moved(rt: HostRuntime) -> Result<(), Fail> {
     let alloc = rt.alloc();

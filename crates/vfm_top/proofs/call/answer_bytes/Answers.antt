@@ -5,12 +5,15 @@ use Rattle.vfm_plain.specs.Report.{report_text}
 use Rattle.vfm_top.specs.declared.status.Status.TheVariants.{Moved}
 use Rattle.vfm_top.specs.StatusText.{status_line}
 use Rattle.vfm_top.specs.Says.{moved_told}
+use Rattle.vfm_top.specs.Headline.{joined}
+use Rattle.vfm_laws.proofs.Cleanness.{legal_clean}
 use Rattle.vfm_top.proofs.call.answer_bytes.Goals as goal
 
 pub returns : goal.returns
 returns g c = λ before now.
     let desc = c.in-Ok.desc in
     let moved = c.in-Ok-move_one.moved in
+    let made = c.in-Ok-move_one.ensures in
     record {
       status = Moved;
       text = report_text desc (status_line Moved) (Some (moved_told moved.source.entries moved.joint moved.destination.entries moved.last));
@@ -24,7 +27,19 @@ returns g c = λ before now.
           last = moved.last;
           described = c.in-Ok.ensures.value;
           valid = c.in-Ok.ensures.valid;
-          move_made = record { joint_shape = c.in-Ok-move_one.ensures.joint_shape; last_shape = c.in-Ok-move_one.ensures.last_shape };
+          move_made = record {
+            joint_shape = made.joint_shape;
+            last_shape = made.last_shape;
+            legal = made.legal;
+            clean = legal_clean desc c.in-Ok.ensures.valid (joined moved.source.entries moved.destination.entries) made.legal;
+            joint_machine = made.joint;
+            last_machine = made.last;
+            source_ended = made.source_end;
+            not_aborted = made.kept.0;
+            not_failed = made.kept.1;
+            takes_over = made.destination_begin;
+            ended = made.ended;
+          };
           told = refl;
         },
       );
