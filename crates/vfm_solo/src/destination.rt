@@ -31,6 +31,7 @@ impl Engine {
             → Follows desc.now (past_of before self.new) home self.new }
         ensures first { self.old.journal.entries ≡ [] → slice_get self.new.journal.entries 0 ≡ Some Resume }
     {
+        // a device that isn't RUNNING has no step, so the first two rounds are the coordinator's alone
         self.note(Entry::Resume);
         let stopped = onward(desc, MigState::Resuming, MigState::Running);
         self.note(Entry::Arc {

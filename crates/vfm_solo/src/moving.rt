@@ -12,6 +12,7 @@ ghost use Rattle.vfm_types.specs.Requests.{plain};
 ghost use Rattle.vfm_types.specs.Deliveries.{delivers};
 ghost use Rattle.vfm_types.specs.Phases.{is_aborted, is_failed};
 ghost use Rattle.vfm_plain.specs.Legal.{IsLegal};
+ghost use Rattle.vfm_plain.specs.Clean.{IsClean};
 ghost use Rattle.vfm_plain.specs.Ended.{has_ended, is_last_ended};
 ghost use Rattle.vfm_solo.specs.Solo.{IsSolo};
 ghost use Rattle.vfm_solo.specs.Follows.{Follows, Unpassed, InPass, past_of, before_joint, waiting_stage};
@@ -114,6 +115,7 @@ pub fn move_one(alloc: Global, desc: &Desc) -> Result<Moved, NoMemory>
     ensures joint_shape { IfOk result (λ moved. HasShape desc.now moved.joint) }
     ensures last_shape { IfOk result (λ moved. HasShape desc.now moved.last) }
     ensures legal { IfOk result (λ moved. IsLegal desc.now (reverse (moved.source.entries ++ moved.destination.entries))) }
+    ensures clean { IfOk result (λ moved. IsClean desc.now (reverse (moved.source.entries ++ moved.destination.entries))) }
     ensures joint { IfOk result (λ moved. plain desc.now (delivers (before_joint moved.source.entries)) ≡ Some moved.joint) }
     ensures last { IfOk result (λ moved. plain desc.now (delivers (moved.source.entries ++ moved.destination.entries)) ≡ Some moved.last) }
     ensures source_end { IfOk result (λ moved. IsTrue (is_last_ended desc.now (reverse moved.source.entries))) }

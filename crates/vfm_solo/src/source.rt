@@ -81,6 +81,7 @@ impl Engine {
         ensures unpassed { (before : List Item) → Unpassed desc.now (past_of before self.old) → Unpassed desc.now (past_of before self.new) }
         ensures begins { (desc.now.begin ≤ completed_of self.new) ⊎ ((self.new.flight ≡ Empty) × ((device_of self.new.plain 0).pending ≡ [])) }
     {
+        // where the move may begin at once, the device's step of the first round would have done nothing
         while !self.may_begin(desc) {
             let (_, done, _) = self.plain.counts(DeviceId(0));
             self.step(desc, done < desc.begin);
@@ -101,6 +102,8 @@ impl Engine {
             → Follows desc.now (past_of before self.new) readable self.new }
         ensures unpassed { (before : List Item) → Unpassed desc.now (past_of before self.old) → Unpassed desc.now (past_of before self.new) }
     {
+        // Each round is a step of the device and then one of the coordinator. Between Begin and Hold the device has one
+        // step; once it is held it only ends what is on the bus, and the arc waits for that.
         self.await_begin(desc);
         self.note(Entry::Begin);
         self.step(desc, true);

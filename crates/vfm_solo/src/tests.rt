@@ -47,6 +47,7 @@ fn small(alloc: Global, begin: u32, queue: &[u32]) -> Result<Desc, Fail>
 // the machine of the first test
 #[tactic(auto, unfolding(vfm_types::specs::DescFault::form_fault))]
 fn one_write(alloc: Global) -> Result<Desc, Fail>
+    ensures pages { IfOk result (λ desc. desc.pages ≡ 2) }
     ensures valid { IfOk result IsValid }
     ensures solo { IfOk result IsSolo }
 {

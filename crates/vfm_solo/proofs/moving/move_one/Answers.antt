@@ -9,6 +9,7 @@ use Rattle.vfm_types.specs.Phases.{is_aborted, is_failed}
 use Rattle.vfm_plain.specs.Legal.{IsLegal}
 use Rattle.vfm_plain.specs.Ended.{has_ended, is_last_ended}
 use Rattle.vfm_laws.proofs.Enabled.{plain_exists}
+use Rattle.vfm_laws.proofs.Cleanness.{legal_clean}
 use Rattle.vfm_solo.specs.declared.engine.Engine.{Engine}
 use Rattle.vfm_solo.specs.Follows.{Follows, Unpassed, Copied, InPass, past_of, older_than_joint, before_joint, waiting_stage, joined, home}
 use Rattle.vfm_solo.proofs.Copies.{same_follows, home_ended, pass_over, start_follows, start_unpassed}
@@ -50,6 +51,10 @@ destination_end c =
 
 pub returns-clause-legal : goal.returns-clause-legal
 returns-clause-legal c = (destination_end c).legal
+
+pub returns-clause-clean : goal.returns-clause-clean
+returns-clause-clean c =
+    legal_clean c.args.desc.now c.requires.valid (reverse (c.hand_over.new.self.journal.entries ++ c.take_over.new.self.journal.entries)) (destination_end c).legal
 
 pub returns-clause-joint : goal.returns-clause-joint
 returns-clause-joint c =
