@@ -5,8 +5,6 @@ use Rattle.vfm_plain.specs.Report.{report_text}
 use Rattle.vfm_top.specs.declared.status.Status.TheVariants.{Moved}
 use Rattle.vfm_top.specs.StatusText.{status_line}
 use Rattle.vfm_top.specs.Says.{moved_told}
-use Rattle.vfm_top.specs.Headline.{joined}
-use Rattle.vfm_laws.proofs.Cleanness.{legal_clean}
 use Rattle.vfm_top.proofs.call.answer_bytes.Goals as goal
 
 pub returns : goal.returns
@@ -31,7 +29,7 @@ returns g c = λ before now.
             joint_shape = made.joint_shape;
             last_shape = made.last_shape;
             legal = made.legal;
-            clean = legal_clean desc c.in-Ok.ensures.valid (joined moved.source.entries moved.destination.entries) made.legal;
+            clean = made.clean;
             joint_machine = made.joint;
             last_machine = made.last;
             source_ended = made.source_end;
