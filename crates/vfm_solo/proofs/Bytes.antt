@@ -1,12 +1,10 @@
 -- Pages, blocks and requests as bytes: one more of them, and what stands in front.
-use Rattle.std.proofs.Common.{◌≡◌, ℕ, zero, suc, ◌+◌, ◌-◌, ◌*◌, ◌/◌, ◌%◌, ◌<◌, ◌≤◌, ◌&&◌, ◌==◌, Bool, nat_le, IsTrue, List, [], ◌∷◌, ◌++◌, length, take, drop, slice_index_or, get_or, refl, sym, ap, ◌∙◌, subst, arith, add-one, append-nil, append_assoc, length-append, drop-cons, take-suc, take_at, drop_at, ext_get_or, take_all}
+use Rattle.std.proofs.Common.{◌≡◌, ℕ, zero, suc, ◌+◌, ◌*◌, ◌/◌, ◌%◌, ◌<◌, ◌≤◌, ◌&&◌, ◌==◌, nat_le, IsTrue, List, [], ◌∷◌, ◌++◌, length, take, drop, slice_index_or, refl, sym, ap, ◌∙◌, arith, append-nil, append_assoc, length-append, drop-cons, take_at, drop_at}
 use Rattle.std.proofs.lemmas.Bool.{eqb-true}
-use Rattle.std.proofs.lemmas.List.Elements.{All-get_or, All-from_get_or, All-head, All-tail, All-push}
-use Rattle.std.specs.List.{All}
-use Rattle.std.specs.Int.{w32, to_be_bytes}
+use Rattle.std.proofs.lemmas.List.Elements.{All-get_or, All-head, All-tail}
 use Rattle.vfm_types.specs.Valid.{is_bar_size}
 use Rattle.vfm_plain.proofs.Sound.{both}
-use Rattle.vfm_solo.specs.Image.{flat, number_bytes, pending_bytes, AllFit, AllSized}
+use Rattle.vfm_solo.specs.Image.{flat, number_bytes, pending_bytes, AllSized}
 
 -- one page more
 pub flat_more : (pages : List (List ℕ)) (p : ℕ) → p < length pages → flat (take (suc p) pages) ≡ flat (take p pages) ++ slice_index_or pages p []

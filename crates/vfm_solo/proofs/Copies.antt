@@ -1,28 +1,27 @@
 -- The entries of the last pass, and what the destination makes first: what they need, and what follows them.
-use Rattle.std.proofs.Common.{◌≡◌, ℕ, zero, suc, ◌+◌, ◌/◌, ◌<◌, ◌≤◌, ◌==◌, ◌&&◌, ◌||◌, not, Bool, true, false, nat_lt, nat_le, if◌then◌else◌, List, [], ◌∷◌, length, Option, Some, None, is_none, refl, sym, ap, ◌∙◌, subst, arith}
+use Rattle.std.proofs.Common.{◌≡◌, ℕ, ◌+◌, ◌<◌, ◌==◌, ◌&&◌, ◌||◌, not, Bool, true, false, nat_lt, if◌then◌else◌, List, [], ◌∷◌, Option, Some, None, is_none, refl, sym, ap, ◌∙◌, arith}
 use Rattle.std.specs.Option.{option_or}
 use Rattle.std.proofs.lemmas.Bool.{lt-ltb, le-ltb}
 use Rattle.vfm_types.specs.declared.desc.Desc.{Desc}
-use Rattle.vfm_types.specs.Desc.{device_count, shape_at, block_count}
+use Rattle.vfm_types.specs.Desc.{shape_at, block_count}
 use Rattle.vfm_types.specs.declared.state.MigState.{MigState}
-use Rattle.vfm_types.specs.declared.state.MigState.TheVariants.{Stop, Running, StopCopy, Resuming, PreCopy}
+use Rattle.vfm_types.specs.declared.state.MigState.TheVariants.{Stop, Running, PreCopy}
 use Rattle.vfm_types.specs.declared.entry.Entry.{Entry}
 use Rattle.vfm_types.specs.declared.entry.Entry.TheVariants.{Pass, Copy, Block, Joint, Resume, Arc}
 use Rattle.vfm_types.specs.declared.entry.Rule.TheVariants.{Order, Pages, Blocks, Joint as Standing, Decide}
 use Rattle.vfm_types.specs.Paths.{same_state}
 use Rattle.vfm_types.specs.Least.{all_below, least_below}
-use Rattle.vfm_types.specs.Phases.{is_joint, is_last_begun, pass_count, is_on}
+use Rattle.vfm_types.specs.Phases.{is_joint, is_last_begun, is_on}
 use Rattle.vfm_types.specs.Arcs.{state_of}
 use Rattle.vfm_types.specs.Outstanding.{Outstanding, outstanding_of}
-use Rattle.vfm_types.specs.Deliveries.{machine_of}
 use Rattle.vfm_types.specs.Machine.{Machine, device_of, described}
 use Rattle.vfm_types.specs.Words.{is_idle, is_nothing}
 use Rattle.vfm_plain.specs.Ended.{has_ended, is_last_ended}
 use Rattle.vfm_solo.specs.declared.engine.Flight.TheVariants.{Empty}
 use Rattle.vfm_solo.proofs.Moves.{joint_follows, joint_unpassed}
 use Rattle.vfm_types.specs.Marks.{is_in_set, is_copied, next_copy}
-use Rattle.vfm_types.specs.Blocks.{is_unread, is_dirty, next_block, takes_part, blocks_read, was_dry, has_part, next_part, is_pass_ended}
-use Rattle.vfm_plain.specs.Rules.{first_broken, fault_of, is_the, is_next_pass, is_pass_wanted, is_copy_due, is_part_due}
+use Rattle.vfm_types.specs.Blocks.{is_unread, is_dirty, next_block, blocks_read, was_dry, has_part, next_part, is_pass_ended}
+use Rattle.vfm_plain.specs.Rules.{fault_of, is_the, is_next_pass, is_pass_wanted, is_copy_due, is_part_due}
 use Rattle.vfm_solo.specs.declared.engine.Engine.{Engine}
 use Rattle.vfm_solo.specs.Solo.{IsSolo}
 use Rattle.vfm_solo.specs.Follows.{Stage, Follows, Unpassed, Copied, InPass, on_bus, waiting_stage, readable, joined, taken_over, halted, home}

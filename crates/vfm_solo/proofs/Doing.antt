@@ -1,7 +1,7 @@
 -- What doing a request counts.
 use Rattle.std.proofs.Common.{◌≡◌, ℕ, ◌+◌, ◌<◌, length, ap, ◌∙◌}
 use Rattle.vfm_types.specs.declared.desc.Desc.{Desc}
-use Rattle.vfm_types.specs.Machine.{DeviceState, Machine, device_of, with_device, effect}
+use Rattle.vfm_types.specs.Machine.{DeviceState, Machine, device_of, with_device}
 use Rattle.vfm_types.specs.Requests.{job_of, taken, do_request}
 use Rattle.vfm_laws.proofs.Effects.{device_changed, effect_grown}
 

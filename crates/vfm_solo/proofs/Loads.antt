@@ -1,5 +1,5 @@
 -- What reading the bytes of a machine back gives.
-use Rattle.std.proofs.Common.{◌≡◌, ℕ, zero, suc, ◌+◌, ◌-◌, ◌*◌, ◌^◌, ◌<◌, ◌≤◌, List, [], ◌∷◌, ◌++◌, length, take, drop, slice_index_or, slice_set, get_or, ◌⊎◌, inl, inr, ⊎_elim, refl, sym, ap, ◌∙◌, subst, arith, add-one, add-zero, append-nil, append_assoc, length-append, drop-cons, take-suc, take_at, drop_at, get_or-set_same, get_or-set_other, set-set}
+use Rattle.std.proofs.Common.{◌≡◌, ℕ, zero, suc, ◌+◌, ◌-◌, ◌*◌, ◌^◌, ◌<◌, ◌≤◌, List, [], ◌∷◌, ◌++◌, length, take, drop, slice_index_or, slice_set, ⊎_elim, refl, sym, ap, ◌∙◌, subst, arith, add-one, add-zero, append-nil, append_assoc, length-append, drop-cons, take-suc, take_at, drop_at, get_or-set_same, get_or-set_other, set-set}
 use Rattle.std.proofs.Math.Nat.{mul-suc}
 use Rattle.std.proofs.lemmas.Bool.{cases_eq}
 use Rattle.std.proofs.lemmas.List.Elements.{All-get_or, All-from_get_or}

@@ -1,21 +1,20 @@
 -- The entries of the coordinator before the pass: what they need, and what follows them.
-use Rattle.std.proofs.Common.{◌≡◌, ℕ, zero, suc, ◌+◌, ◌-◌, ◌<◌, ◌≤◌, ◌==◌, ◌&&◌, ◌||◌, not, Bool, true, false, nat_le, List, [], ◌∷◌, ◌++◌, length, Option, Some, None, ◌⊎◌, inl, inr, refl, sym, ap, ◌∙◌, subst, arith}
+use Rattle.std.proofs.Common.{◌≡◌, ℕ, ◌+◌, ◌<◌, ◌≤◌, ◌==◌, ◌&&◌, ◌||◌, Bool, true, false, nat_le, List, [], ◌∷◌, length, None, ◌⊎◌, inl, inr, refl, sym, ap, ◌∙◌, arith}
 use Rattle.std.proofs.lemmas.Bool.{lt-ltb, le-leb}
 use Rattle.vfm_types.specs.declared.desc.Desc.{Desc}
-use Rattle.vfm_types.specs.Desc.{device_count, shape_at}
+use Rattle.vfm_types.specs.Desc.{device_count}
 use Rattle.vfm_types.specs.declared.state.MigState.{MigState}
-use Rattle.vfm_types.specs.declared.state.MigState.TheVariants.{Stop, Running, StopCopy, Resuming}
+use Rattle.vfm_types.specs.declared.state.MigState.TheVariants.{Stop, StopCopy}
 use Rattle.vfm_types.specs.declared.entry.Entry.{Entry}
-use Rattle.vfm_types.specs.declared.entry.Entry.TheVariants.{Hold, Arc, Begin, Joint, Resume, Pass}
+use Rattle.vfm_types.specs.declared.entry.Entry.TheVariants.{Hold, Arc, Begin, Joint}
 use Rattle.vfm_types.specs.Machine.{DeviceState, Machine, device_of}
-use Rattle.vfm_types.specs.Deliveries.{machine_of}
 use Rattle.vfm_types.specs.Least.{all_below}
 use Rattle.vfm_types.specs.Arcs.{arc_count}
 use Rattle.vfm_types.specs.Outstanding.{Outstanding, outstanding_of, issue_count, complete_count}
 use Rattle.vfm_types.specs.Words.{is_idle, is_nothing}
 use Rattle.vfm_types.specs.Valid.{IsValid}
 use Rattle.vfm_plain.specs.Rules.{fault_of, may_begin}
-use Rattle.vfm_laws.specs.Queues.{device_after, waiting}
+use Rattle.vfm_laws.specs.Queues.{waiting}
 use Rattle.vfm_laws.proofs.Counts.{issued_completed, issued_done}
 use Rattle.vfm_solo.specs.declared.engine.Flight.{Flight}
 use Rattle.vfm_solo.specs.declared.engine.Flight.TheVariants.{Empty, Sent, Arrived}

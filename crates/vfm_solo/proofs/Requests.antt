@@ -1,5 +1,5 @@
 -- The entries of requests: what they need, and what follows them.
-use Rattle.std.proofs.Common.{◌≡◌, ℕ, zero, suc, ◌+◌, ◌<◌, ◌==◌, ◌&&◌, ◌||◌, not, Bool, true, false, nat_lt, if◌then◌else◌, List, [], ◌∷◌, ◌++◌, length, Option, Some, None, unwrap_or, ◌⊎◌, inl, inr, reverse, refl, sym, ap, ◌∙◌, subst, arith, add-zero}
+use Rattle.std.proofs.Common.{◌≡◌, ℕ, ◌+◌, ◌<◌, ◌==◌, ◌&&◌, ◌||◌, not, Bool, true, false, nat_lt, if◌then◌else◌, List, [], ◌∷◌, ◌++◌, length, Option, Some, None, unwrap_or, ◌⊎◌, inl, inr, reverse, refl, sym, ap, ◌∙◌, subst, arith, add-zero}
 use Rattle.std.proofs.lemmas.Bool.{lt-ltb}
 use Rattle.std.proofs.lemmas.List.{reverse-append}
 use Rattle.std.specs.List.{slice_get}
@@ -17,12 +17,11 @@ use Rattle.vfm_types.specs.Requests.{fences, job_of, job_number, do_request}
 use Rattle.vfm_types.specs.Deliveries.{machine_of}
 use Rattle.vfm_types.specs.Phases.{is_begun, is_aborted, is_resumed}
 use Rattle.vfm_types.specs.declared.state.MigState.{MigState}
-use Rattle.vfm_types.specs.Arcs.{state_of, hold_of, is_running, is_p2p, level_of}
-use Rattle.vfm_types.specs.Blocks.{is_unread, is_dirty, writes_block}
-use Rattle.vfm_types.specs.Outstanding.{Outstanding, outstanding_of, is_undelivered, is_arrived, unissued, issue_count, issue_if, deliver_if, complete_if}
-use Rattle.vfm_types.specs.Words.{is_nothing, has_fence, is_barred, is_allowed}
+use Rattle.vfm_types.specs.Arcs.{state_of, is_running, is_p2p, level_of}
+use Rattle.vfm_types.specs.Blocks.{is_dirty, writes_block}
+use Rattle.vfm_types.specs.Outstanding.{Outstanding, outstanding_of, is_undelivered, is_arrived, unissued, issue_count, deliver_if, complete_if}
+use Rattle.vfm_types.specs.Words.{is_nothing, has_fence, is_barred}
 use Rattle.vfm_plain.specs.Rules.{Condition, first_broken, fault_of, is_the, first_number, has_turn, may_go, may_start}
-use Rattle.vfm_solo.specs.declared.engine.Flight.{Flight}
 use Rattle.vfm_solo.specs.declared.engine.Flight.TheVariants.{Empty, Sent, Arrived}
 use Rattle.vfm_solo.specs.declared.engine.Engine.{Engine}
 use Rattle.vfm_solo.specs.Solo.{IsSolo}

@@ -1,5 +1,5 @@
 -- Machines with one device that this crate moves.
-use Rattle.std.specs.Prelude.{◌≡◌, ℕ, Bool, true, false, IsTrue}
+use Rattle.std.specs.Prelude.{◌≡◌, Bool, true, false, IsTrue}
 use Rattle.std.specs.List.{list_all}
 use Rattle.vfm_types.specs.declared.job.Job.{Job}
 use Rattle.vfm_types.specs.declared.job.Job.TheVariants.{Write, Read, Store, Add}

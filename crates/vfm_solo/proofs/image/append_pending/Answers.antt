@@ -1,7 +1,7 @@
-use Rattle.std.proofs.Common.{◌≡◌, ℕ, suc, ◌+◌, ◌-◌, ◌*◌, ◌^◌, ◌<◌, ◌≤◌, List, ◌∷◌, [], ◌++◌, length, take, slice_index_or, ap, ◌∙◌, sym, subst, arith, add-one, append_assoc, take-suc}
+use Rattle.std.proofs.Common.{◌≡◌, ℕ, ◌+◌, ◌^◌, ◌<◌, List, ◌∷◌, [], ◌++◌, length, take, slice_index_or, ap, ◌∙◌, sym, subst, arith, add-one, append_assoc, take-suc}
 use Rattle.std.proofs.lemmas.List.Elements.{All-push}
 use Rattle.vfm_solo.specs.Image.{number_bytes, pending_bytes, AllFit}
-use Rattle.vfm_solo.proofs.Bytes.{pending_more, length-number}
+use Rattle.vfm_solo.proofs.Bytes.{pending_more}
 use Rattle.vfm_solo.proofs.image.append_pending.Goals as goal
 
 -- the bytes with one request more

@@ -1,10 +1,10 @@
-use Rattle.std.proofs.Common.{◌≡◌, ℕ, ◌+◌, ◌*◌, ◌<◌, ◌≤◌, List, [], ◌++◌, length, take, drop, sym, ap, ◌∙◌, subst, arith, length-append, take_at, drop_at, mul_comm, slice_index_or}
+use Rattle.std.proofs.Common.{◌≡◌, ℕ, ◌*◌, ◌<◌, List, ◌++◌, length, take, drop, sym, ap, ◌∙◌, arith, length-append, take_at, drop_at, mul_comm, slice_index_or}
 use Rattle.vfm_types.specs.declared.desc.DevShape.{DevShape}
-use Rattle.vfm_types.specs.Desc.{device_count, shape_at, bar_bytes}
+use Rattle.vfm_types.specs.Desc.{device_count}
 use Rattle.vfm_types.specs.Machine.{DeviceState, Machine, no_device, device_of, with_device}
 use Rattle.vfm_plain.specs.Shape.{IsSound}
 use Rattle.vfm_laws.proofs.Effects.{device_changed, device_count_kept}
-use Rattle.vfm_solo.specs.Image.{flat, image, device_bytes, AllFit, IsHanded}
+use Rattle.vfm_solo.specs.Image.{flat, image, device_bytes, AllFit}
 use Rattle.vfm_solo.proofs.Bytes.{length-flat}
 use Rattle.vfm_solo.proofs.Loads.{pages_sized, handed_of, machine_whole}
 use Rattle.vfm_solo.proofs.image.load.Goals as goal

@@ -1,4 +1,4 @@
-use Rattle.std.proofs.Common.{◌≡◌, ℕ, ◌+◌, ◌*◌, ◌^◌, ◌<◌, ◌≤◌, List, [], ◌++◌, length, take, drop, sym, ap, ◌∙◌, subst, arith, length-drop}
+use Rattle.std.proofs.Common.{◌≡◌, ◌<◌, [], ◌++◌, length, sym, ap, ◌∙◌, arith, length-drop}
 use Rattle.vfm_types.specs.Machine.{DeviceState, Machine, device_of, with_device}
 use Rattle.vfm_laws.proofs.Effects.{device_changed, device_count_kept}
 use Rattle.vfm_solo.specs.Image.{number_bytes, pending_bytes, IsHanded}

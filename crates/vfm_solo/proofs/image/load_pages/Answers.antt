@@ -1,7 +1,7 @@
-use Rattle.std.proofs.Common.{◌≡◌, ℕ, suc, ◌+◌, ◌-◌, ◌*◌, ◌<◌, ◌≤◌, List, [], ◌++◌, length, drop, take, slice_index_or, slice_set, refl, ap, ◌∙◌, sym, subst, arith, add-one, length-set, ext_get_or}
+use Rattle.std.proofs.Common.{◌≡◌, ℕ, ◌+◌, ◌-◌, ◌*◌, ◌<◌, ◌≤◌, List, [], ◌++◌, length, drop, take, slice_index_or, slice_set, refl, ap, ◌∙◌, sym, subst, arith, add-one, length-set, ext_get_or}
 use Rattle.std.proofs.lemmas.List.{drop_all}
 use Rattle.vfm_types.specs.Machine.{Machine}
-use Rattle.vfm_solo.specs.Image.{flat, AllSized}
+use Rattle.vfm_solo.specs.Image.{flat}
 use Rattle.vfm_solo.proofs.Bytes.{front_page}
 use Rattle.vfm_solo.proofs.Loads.{page_ahead, pages_behind, each_set}
 use Rattle.vfm_solo.proofs.image.load_pages.Goals as goal

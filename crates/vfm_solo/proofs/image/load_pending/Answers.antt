@@ -1,7 +1,7 @@
-use Rattle.std.proofs.Common.{◌≡◌, ℕ, ◌+◌, ◌-◌, ◌*◌, ◌^◌, ◌<◌, ◌≤◌, List, [], ◌∷◌, ◌++◌, length, take, drop, slice_index_or, refl, sym, ap, ◌∙◌, subst, arith, length-drop, length-set, take_all}
+use Rattle.std.proofs.Common.{◌≡◌, ℕ, ◌+◌, ◌<◌, List, ◌++◌, length, take, drop, slice_index_or, refl, ap, ◌∙◌, arith, length-drop, take_all}
 use Rattle.vfm_types.specs.Machine.{DeviceState, Machine, device_of, with_device}
 use Rattle.vfm_laws.proofs.Effects.{device_changed, device_count_kept}
-use Rattle.vfm_solo.specs.Image.{number_bytes, pending_bytes, AllFit}
+use Rattle.vfm_solo.specs.Image.{number_bytes, pending_bytes}
 use Rattle.vfm_solo.proofs.Loads.{grown, grown_by, grown_none, pending_step, pending_ahead, behind, fits_at}
 use Rattle.vfm_solo.proofs.image.load_pending.Goals as goal
 

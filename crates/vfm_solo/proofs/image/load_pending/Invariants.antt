@@ -1,4 +1,4 @@
-use Rattle.std.proofs.Common.{◌≡◌, ℕ, ◌+◌, ◌-◌, ◌*◌, ◌<◌, ◌≤◌, List, ◌++◌, length, take, drop}
+use Rattle.std.proofs.Common.{◌≡◌, ℕ, ◌+◌, ◌-◌, ◌*◌, ◌≤◌, List, ◌++◌, length, take, drop}
 use Rattle.vfm_types.specs.Machine.{device_of, with_device}
 use Rattle.vfm_solo.specs.Image.{pending_bytes, AllFit}
 use Rattle.vfm_solo.proofs.image.load_pending.Given as goal

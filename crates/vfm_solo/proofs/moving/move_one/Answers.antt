@@ -1,17 +1,14 @@
-use Rattle.std.proofs.Common.{◌≡◌, ℕ, ◌++◌, Bool, true, false, List, [], ◌∷◌, length, reverse, Some, IsTrue, IsFalse, refl, sym, ap, ◌∙◌, subst, append-nil}
+use Rattle.std.proofs.Common.{◌≡◌, ◌++◌, List, [], reverse, Some, sym, ap, ◌∙◌, subst, append-nil}
 use Rattle.std.proofs.lemmas.List.{reverse-append, reverse-reverse}
 use Rattle.vfm_types.specs.Desc.{shape_at, block_count}
 use Rattle.vfm_types.specs.Machine.{Machine}
 use Rattle.vfm_types.specs.declared.entry.Entry.{Entry}
 use Rattle.vfm_types.specs.Requests.{plain}
-use Rattle.vfm_types.specs.Deliveries.{delivers, machine_of}
-use Rattle.vfm_types.specs.Phases.{is_aborted, is_failed}
-use Rattle.vfm_plain.specs.Legal.{IsLegal}
-use Rattle.vfm_plain.specs.Ended.{has_ended, is_last_ended}
+use Rattle.vfm_types.specs.Deliveries.{delivers}
 use Rattle.vfm_laws.proofs.Enabled.{plain_exists}
 use Rattle.vfm_laws.proofs.Cleanness.{legal_clean}
 use Rattle.vfm_solo.specs.declared.engine.Engine.{Engine}
-use Rattle.vfm_solo.specs.Follows.{Follows, Unpassed, Copied, InPass, past_of, older_than_joint, before_joint, waiting_stage, joined, home}
+use Rattle.vfm_solo.specs.Follows.{Follows, Unpassed, Copied, InPass, past_of, older_than_joint, waiting_stage, joined, home}
 use Rattle.vfm_solo.proofs.Copies.{same_follows, home_ended, pass_over, start_follows, start_unpassed}
 use Rattle.vfm_solo.proofs.moving.move_one.Goals as goal
 use Rattle.vfm_solo.proofs.moving.move_one.Goals.{After-drop-outbox}

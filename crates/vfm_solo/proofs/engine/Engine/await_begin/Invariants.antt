@@ -1,7 +1,7 @@
-use Rattle.std.proofs.Common.{◌-◌, ◌+◌, List, IsTrue}
+use Rattle.std.proofs.Common.{◌-◌, ◌+◌, List}
 use Rattle.vfm_types.specs.declared.entry.Entry.{Entry}
 use Rattle.vfm_solo.specs.Ready.{IsReady, IsOnward, reach_of, most_reach}
-use Rattle.vfm_solo.specs.Follows.{Stage, Follows, Unpassed, IsOpen, IsRunning, past_of}
+use Rattle.vfm_solo.specs.Follows.{Stage, Follows, Unpassed, IsRunning, past_of}
 use Rattle.vfm_solo.proofs.engine.Engine.await_begin.Given as goal
 
 abbrev pub invariant-loop-self : goal.invariant-loop-self

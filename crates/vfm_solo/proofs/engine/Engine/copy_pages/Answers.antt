@@ -1,4 +1,4 @@
-use Rattle.std.proofs.Common.{◌≡◌, ℕ, suc, ◌+◌, ◌<◌, List, [], ◌++◌, length, take, slice_index_or, ap, ◌∙◌, sym, arith, add-one, append_assoc, length-append}
+use Rattle.std.proofs.Common.{◌≡◌, ℕ, ◌+◌, ◌<◌, List, [], ◌++◌, length, take, slice_index_or, ap, ◌∙◌, sym, arith, add-one, append_assoc, length-append}
 use Rattle.vfm_types.specs.Machine.{Machine}
 use Rattle.vfm_types.specs.declared.entry.Entry.TheVariants.{Copy}
 use Rattle.vfm_solo.specs.Image.{flat}

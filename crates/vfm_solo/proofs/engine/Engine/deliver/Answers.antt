@@ -1,10 +1,9 @@
-use Rattle.vfm_types.specs.declared.entry.Entry.{Entry}
 use Rattle.vfm_types.specs.declared.entry.Entry.TheVariants.{Deliver}
-use Rattle.vfm_solo.specs.declared.engine.Flight.TheVariants.{Empty, Sent, Arrived}
+use Rattle.vfm_solo.specs.declared.engine.Flight.TheVariants.{Arrived}
 use Rattle.vfm_solo.specs.declared.engine.Engine.{Engine}
-use Rattle.vfm_solo.specs.Follows.{Stage, Follows, Unpassed, past_of}
+use Rattle.vfm_solo.specs.Follows.{past_of}
 use Rattle.vfm_solo.proofs.Requests.{deliver_follows, deliver_unpassed, follows_more, unpassed_more, first_more}
-use Rattle.std.proofs.Common.{◌≡◌, ◌<◌, length, List, refl, arith, ap, ◌∙◌}
+use Rattle.std.proofs.Common.{◌<◌, length, refl, arith, ap, ◌∙◌}
 use Rattle.vfm_types.specs.Machine.{Machine, device_of}
 use Rattle.vfm_types.specs.Desc.{device_count}
 use Rattle.vfm_solo.proofs.Doing.{one_more_done}

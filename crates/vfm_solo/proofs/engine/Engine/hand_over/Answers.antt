@@ -1,4 +1,4 @@
-use Rattle.std.proofs.Common.{◌≡◌, ℕ, ◌+◌, ◌*◌, ◌<◌, ◌≤◌, List, [], ◌∷◌, ◌++◌, length, sym, ap, ◌∙◌, subst, arith, append_assoc, mul_comm}
+use Rattle.std.proofs.Common.{◌≡◌, ℕ, ◌*◌, ◌<◌, List, ◌∷◌, ◌++◌, length, sym, ap, ◌∙◌, subst, arith, append_assoc}
 use Rattle.vfm_types.specs.Desc.{device_count}
 use Rattle.vfm_types.specs.Machine.{Machine, device_of}
 use Rattle.vfm_types.specs.declared.entry.Entry.{Entry}
@@ -6,7 +6,7 @@ use Rattle.vfm_types.specs.declared.entry.Entry.TheVariants.{Pass, Joint}
 use Rattle.vfm_solo.specs.Follows.{InPass, past_of}
 use Rattle.vfm_solo.proofs.Requests.{past_more}
 use Rattle.vfm_solo.proofs.Copies.{pass_begins}
-use Rattle.vfm_solo.specs.Image.{flat, image, device_bytes}
+use Rattle.vfm_solo.specs.Image.{flat, device_bytes}
 use Rattle.vfm_solo.proofs.Bytes.{length-flat}
 use Rattle.vfm_solo.proofs.Loads.{pages_sized}
 use Rattle.vfm_solo.proofs.engine.Engine.hand_over.Goals as goal

@@ -1,9 +1,8 @@
-use Rattle.std.proofs.Common.{◌≡◌, List, refl}
-use Rattle.vfm_types.specs.declared.entry.Entry.{Entry}
+use Rattle.std.proofs.Common.{refl}
 use Rattle.vfm_types.specs.declared.entry.Entry.TheVariants.{Issue}
-use Rattle.vfm_solo.specs.declared.engine.Flight.TheVariants.{Empty, Sent, Arrived}
+use Rattle.vfm_solo.specs.declared.engine.Flight.TheVariants.{Sent}
 use Rattle.vfm_solo.specs.declared.engine.Engine.{Engine}
-use Rattle.vfm_solo.specs.Follows.{Stage, Follows, Unpassed, past_of}
+use Rattle.vfm_solo.specs.Follows.{past_of}
 use Rattle.vfm_solo.proofs.Requests.{issue_follows, issue_unpassed, follows_more, unpassed_more, first_more}
 use Rattle.vfm_solo.proofs.engine.Engine.issue.Goals as goal
 

@@ -1,4 +1,4 @@
-use Rattle.std.proofs.Common.{◌≡◌, ℕ, ◌+◌, ◌-◌, ◌*◌, ◌/◌, ◌<◌, ◌≤◌, List, ◌++◌, length, take, drop, ap, ◌∙◌, sym, subst, arith, append_assoc, length-append, take-add, length-take, length-drop}
+use Rattle.std.proofs.Common.{◌≡◌, ℕ, ◌+◌, ◌-◌, ◌*◌, ◌<◌, List, ◌++◌, length, take, drop, ap, ◌∙◌, sym, subst, arith, append_assoc, take-add, length-take, length-drop}
 use Rattle.vfm_types.specs.Machine.{Machine, device_of}
 use Rattle.vfm_types.specs.Desc.{device_count, shape_at, bar_bytes, block_count}
 use Rattle.vfm_types.specs.declared.desc.DevShape.{DevShape}

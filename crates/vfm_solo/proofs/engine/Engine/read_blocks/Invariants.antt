@@ -1,5 +1,4 @@
 use Rattle.std.proofs.Common.{◌≡◌, ◌+◌, ◌*◌, ◌≤◌, ◌++◌, List, length, take, vec_len, vec_capacity}
-use Rattle.vfm_types.specs.Desc.{shape_at, bar_bytes}
 use Rattle.vfm_types.specs.declared.entry.Entry.{Entry}
 use Rattle.vfm_types.specs.Machine.{device_of}
 use Rattle.vfm_solo.specs.Follows.{InPass, past_of}

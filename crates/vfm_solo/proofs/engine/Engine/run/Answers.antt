@@ -1,4 +1,4 @@
-use Rattle.std.proofs.Common.{◌≡◌, inl, arith, ◌∙◌}
+use Rattle.std.proofs.Common.{inl, arith, ◌∙◌}
 use Rattle.vfm_solo.proofs.engine.Engine.run.Goals as goal
 
 pub loop-preserved : goal.loop-preserved

@@ -1,7 +1,7 @@
 use Rattle.std.proofs.Common.{◌≡◌, ◌-◌, ◌+◌, List, IsTrue, slice_get, Some}
 use Rattle.vfm_types.specs.declared.entry.Entry.{Entry}
 use Rattle.vfm_solo.specs.Ready.{IsReady, IsOnward, reach_of, most_reach}
-use Rattle.vfm_solo.specs.Follows.{Stage, Follows, Unpassed, IsOpen, IsRunning, past_of}
+use Rattle.vfm_solo.specs.Follows.{Stage, Follows, Unpassed, IsOpen, past_of}
 use Rattle.vfm_solo.proofs.engine.Engine.run.Given as goal
 
 abbrev pub invariant-loop : goal.invariant-loop

@@ -1,10 +1,9 @@
-use Rattle.std.proofs.Common.{◌≡◌, ◌++◌, List, [], ◌∷◌, inl, refl, ap, ◌∙◌}
+use Rattle.std.proofs.Common.{◌≡◌, ◌++◌, [], ◌∷◌, inl, refl, ap, ◌∙◌}
 use Rattle.std.proofs.lemmas.Bool.{false≢true}
 use Rattle.vfm_types.specs.declared.state.MigState.{MigState}
 use Rattle.vfm_types.specs.declared.state.MigState.TheVariants.{Stop, StopCopy}
-use Rattle.vfm_types.specs.declared.entry.Entry.{Entry}
 use Rattle.vfm_types.specs.declared.entry.Entry.TheVariants.{Begin, Hold, Arc}
-use Rattle.vfm_solo.specs.Follows.{Follows, Unpassed, past_of, waiting_stage, going, held, stopped, readable}
+use Rattle.vfm_solo.specs.Follows.{past_of, waiting_stage, going, held, stopped, readable}
 use Rattle.vfm_solo.proofs.Requests.{follows_more, unpassed_more}
 use Rattle.vfm_solo.proofs.Moves.{begin_follows, hold_follows, stop_follows, readable_follows, begin_unpassed, hold_unpassed, arc_unpassed}
 use Rattle.vfm_solo.proofs.engine.Engine.stop.Goals as goal

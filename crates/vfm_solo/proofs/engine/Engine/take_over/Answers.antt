@@ -1,9 +1,9 @@
-use Rattle.std.proofs.Common.{◌≡◌, ◌++◌, List, [], ◌∷◌, Some, slice_get, inl, refl, ap, ◌∙◌}
+use Rattle.std.proofs.Common.{◌≡◌, ◌++◌, List, [], ◌∷◌, Some, slice_get, refl, ap, ◌∙◌}
 use Rattle.vfm_types.specs.declared.state.MigState.{MigState}
 use Rattle.vfm_types.specs.declared.state.MigState.TheVariants.{Stop, Running}
 use Rattle.vfm_types.specs.declared.entry.Entry.{Entry}
 use Rattle.vfm_types.specs.declared.entry.Entry.TheVariants.{Resume, Arc}
-use Rattle.vfm_solo.specs.Follows.{Follows, past_of, taken_over, halted, home}
+use Rattle.vfm_solo.specs.Follows.{past_of, taken_over, halted, home}
 use Rattle.vfm_solo.proofs.Requests.{follows_more, first_more}
 use Rattle.vfm_solo.proofs.Copies.{resume_follows, halt_follows, home_follows}
 use Rattle.vfm_solo.proofs.engine.Engine.take_over.Goals as goal
