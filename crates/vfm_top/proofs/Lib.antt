@@ -1,3 +1,4 @@
+pub mod Decided
 pub mod Forms
 pub mod Paths
 pub mod Unread
