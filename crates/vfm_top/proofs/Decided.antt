@@ -8,7 +8,7 @@ use Rattle.vfm_desc.specs.Described.{described}
 use Rattle.vfm_top.specs.declared.words.Form.{Form}
 use Rattle.vfm_top.specs.declared.words.Form.TheVariants.{Run, Paths}
 use Rattle.vfm_top.specs.declared.status.Status.{Status}
-use Rattle.vfm_top.specs.declared.status.Status.TheVariants.{Moved, Printed, BadWords, BadDescription, ReadFault, WriteFault, LinkFault, Refused, Unconfirmed, InDoubt, Differs, Aborted, ArcFailed, NoControl, NoMemory, PathRefused, Broken, BadReport, StateDiffers}
+use Rattle.vfm_top.specs.declared.status.Status.TheVariants.{Moved, Printed, BadWords, BadDescription, ReadFault, WriteFault, NoMemory, PathRefused}
 use Rattle.vfm_top.specs.Says.{Says, Ends, Answers}
 
 -- where no failed write was counted, the run answers what it decided
@@ -50,92 +50,42 @@ moved : (form : Option Form) (bytes : Option (List ℕ)) (before now : ℕ) (sta
     → (status ≡ Moved) ⊎ (status ≡ NoMemory)
 moved form bytes before now Moved text read machine says f b d quiet = inl refl
 moved form bytes before now NoMemory text read machine says f b d quiet = inr refl
-moved form bytes before now Printed text read machine says f b d quiet = absurd (not_paths form says.from says.to says.flags f says.asked)
-moved form bytes before now (PathRefused fault) text read machine says f b d quiet = absurd (not_paths form says.0 says.1 says.2 f says.3)
+moved form bytes before now Printed text read machine says f b d quiet = absurd (not_paths form says.1.from says.1.to says.1.flags f says.1.asked)
+moved form bytes before now (PathRefused fault) text read machine says f b d quiet = absurd (not_paths form says.1 says.2 says.3 f says.4)
 moved form bytes before now BadWords text read machine says f b d quiet = absurd (not_none form f says.0)
 moved form bytes before now (BadDescription fault) text read machine says f b d quiet =
-    let refused = of_bytes (λ read. described read ≡ Err fault) bytes read b says.1 in absurd (not_both (described read) machine fault d refused)
+    let refused = of_bytes (λ read. described read ≡ Err fault) bytes read b says.2 in absurd (not_both (described read) machine fault d refused)
 moved form bytes before now ReadFault text read machine says f b d quiet = absurd (quiet says.1)
-moved form bytes before now WriteFault text read machine says f b d quiet = absurd says
-moved form bytes before now (LinkFault x) text read machine says f b d quiet = absurd says
-moved form bytes before now (Refused x) text read machine says f b d quiet = absurd says
-moved form bytes before now (Unconfirmed x y) text read machine says f b d quiet = absurd says
-moved form bytes before now (InDoubt x) text read machine says f b d quiet = absurd says
-moved form bytes before now Differs text read machine says f b d quiet = absurd says
-moved form bytes before now (Aborted x) text read machine says f b d quiet = absurd says
-moved form bytes before now (ArcFailed x y) text read machine says f b d quiet = absurd says
-moved form bytes before now (NoControl x) text read machine says f b d quiet = absurd says
-moved form bytes before now (Broken x y) text read machine says f b d quiet = absurd says
-moved form bytes before now (BadReport x) text read machine says f b d quiet = absurd says
-moved form bytes before now (StateDiffers x) text read machine says f b d quiet = absurd says
+moved form bytes before now other text read machine says f b d quiet = absurd says
 
 -- a faulty description is told by its fault, or memory ran out
 refused : (form : Option Form) (bytes : Option (List ℕ)) (before now : ℕ) (status : Status) (text : List ℕ) (read : List ℕ) (fault : DescFault)
     → Says form bytes before now status text → form ≡ Some Run → bytes ≡ Some read → described read ≡ Err fault → (Rose before now → ⊥)
     → (status ≡ BadDescription fault) ⊎ (status ≡ NoMemory)
-refused form bytes before now Moved text read fault says f b d quiet = absurd (not_both (described read) says.1.desc fault (of_bytes (λ read. described read ≡ Ok says.1.desc) bytes read b says.1.described) d)
-refused form bytes before now Printed text read fault says f b d quiet = absurd (not_paths form says.from says.to says.flags f says.asked)
-refused form bytes before now (PathRefused x) text read fault says f b d quiet = absurd (not_paths form says.0 says.1 says.2 f says.3)
+refused form bytes before now Moved text read fault says f b d quiet = absurd (not_both (described read) says.2.desc fault (of_bytes (λ read. described read ≡ Ok says.2.desc) bytes read b says.2.described) d)
+refused form bytes before now Printed text read fault says f b d quiet = absurd (not_paths form says.1.from says.1.to says.1.flags f says.1.asked)
+refused form bytes before now (PathRefused x) text read fault says f b d quiet = absurd (not_paths form says.1 says.2 says.3 f says.4)
 refused form bytes before now BadWords text read fault says f b d quiet = absurd (not_none form f says.0)
-refused form bytes before now (BadDescription x) text read fault says f b d quiet = inl (same_fault (described read) x fault (of_bytes (λ read. described read ≡ Err x) bytes read b says.1) d)
+refused form bytes before now (BadDescription x) text read fault says f b d quiet = inl (same_fault (described read) x fault (of_bytes (λ read. described read ≡ Err x) bytes read b says.2) d)
 refused form bytes before now ReadFault text read fault says f b d quiet = absurd (quiet says.1)
 refused form bytes before now NoMemory text read fault says f b d quiet = inr refl
-refused form bytes before now WriteFault text read fault says f b d quiet = absurd says
-refused form bytes before now (LinkFault x) text read fault says f b d quiet = absurd says
-refused form bytes before now (Refused x) text read fault says f b d quiet = absurd says
-refused form bytes before now (Unconfirmed x y) text read fault says f b d quiet = absurd says
-refused form bytes before now (InDoubt x) text read fault says f b d quiet = absurd says
-refused form bytes before now Differs text read fault says f b d quiet = absurd says
-refused form bytes before now (Aborted x) text read fault says f b d quiet = absurd says
-refused form bytes before now (ArcFailed x y) text read fault says f b d quiet = absurd says
-refused form bytes before now (NoControl x) text read fault says f b d quiet = absurd says
-refused form bytes before now (Broken x y) text read fault says f b d quiet = absurd says
-refused form bytes before now (BadReport x) text read fault says f b d quiet = absurd says
-refused form bytes before now (StateDiffers x) text read fault says f b d quiet = absurd says
+refused form bytes before now other text read fault says f b d quiet = absurd says
 
 -- words without a form are told so
 unread : (form : Option Form) (bytes : Option (List ℕ)) (before now : ℕ) (status : Status) (text : List ℕ) → Says form bytes before now status text → form ≡ None → status ≡ BadWords
 unread form bytes before now Moved text says f = absurd (not_none form says.0 f)
-unread form bytes before now Printed text says f = absurd (no_paths form says.from says.to says.flags f says.asked)
-unread form bytes before now (PathRefused x) text says f = absurd (no_paths form says.0 says.1 says.2 f says.3)
+unread form bytes before now Printed text says f = absurd (no_paths form says.1.from says.1.to says.1.flags f says.1.asked)
+unread form bytes before now (PathRefused x) text says f = absurd (no_paths form says.1 says.2 says.3 f says.4)
 unread form bytes before now BadWords text says f = refl
 unread form bytes before now (BadDescription x) text says f = absurd (not_none form says.0 f)
 unread form bytes before now ReadFault text says f = absurd (not_none form says.0 f)
 unread form bytes before now NoMemory text says f = absurd (not_none form says.0 f)
-unread form bytes before now WriteFault text says f = absurd says
-unread form bytes before now (LinkFault x) text says f = absurd says
-unread form bytes before now (Refused x) text says f = absurd says
-unread form bytes before now (Unconfirmed x y) text says f = absurd says
-unread form bytes before now (InDoubt x) text says f = absurd says
-unread form bytes before now Differs text says f = absurd says
-unread form bytes before now (Aborted x) text says f = absurd says
-unread form bytes before now (ArcFailed x y) text says f = absurd says
-unread form bytes before now (NoControl x) text says f = absurd says
-unread form bytes before now (Broken x y) text says f = absurd says
-unread form bytes before now (BadReport x) text says f = absurd says
-unread form bytes before now (StateDiffers x) text says f = absurd says
+unread form bytes before now other text says f = absurd says
 
 -- a failed read is told only where it was counted
 failed : (form : Option Form) (bytes : Option (List ℕ)) (before now : ℕ) (status : Status) (text : List ℕ) → Says form bytes before now status text → status ≡ ReadFault → Rose before now
-failed form bytes before now Moved text says is = absurd cc
-failed form bytes before now Printed text says is = absurd cc
-failed form bytes before now (PathRefused x) text says is = absurd cc
-failed form bytes before now BadWords text says is = absurd cc
-failed form bytes before now (BadDescription x) text says is = absurd cc
 failed form bytes before now ReadFault text says is = says.1
-failed form bytes before now NoMemory text says is = absurd cc
-failed form bytes before now WriteFault text says is = absurd cc
-failed form bytes before now (LinkFault x) text says is = absurd cc
-failed form bytes before now (Refused x) text says is = absurd cc
-failed form bytes before now (Unconfirmed x y) text says is = absurd cc
-failed form bytes before now (InDoubt x) text says is = absurd cc
-failed form bytes before now Differs text says is = absurd cc
-failed form bytes before now (Aborted x) text says is = absurd cc
-failed form bytes before now (ArcFailed x y) text says is = absurd cc
-failed form bytes before now (NoControl x) text says is = absurd cc
-failed form bytes before now (Broken x y) text says is = absurd cc
-failed form bytes before now (BadReport x) text says is = absurd cc
-failed form bytes before now (StateDiffers x) text says is = absurd cc
+failed form bytes before now other text says is = absurd cc
 
 -- so it is with the whole answer
 pub moves : (form : Option Form) (bytes : Option (List ℕ)) (before now : ℕ) (result : Status) (held : Option (List ℕ)) (faults : ℕ) (holds : Option (List ℕ)) (after : ℕ)
@@ -161,3 +111,24 @@ failed_end result status text held faults holds after (inr e) is = absurd (not_w
 pub read_fault : (form : Option Form) (bytes : Option (List ℕ)) (before now : ℕ) (result : Status) (held : Option (List ℕ)) (faults : ℕ) (holds : Option (List ℕ)) (after : ℕ)
     → Answers form bytes before now result held faults holds after → result ≡ ReadFault → Rose before now
 read_fault form bytes before now result held faults holds after a is = failed form bytes before now a.status a.text a.says (failed_end result a.status a.text held faults holds after a.ends is)
+
+-- no failed read is swallowed: at every other status than that of a failed read, the count stood still
+kept : (form : Option Form) (bytes : Option (List ℕ)) (before now : ℕ) (status : Status) (text : List ℕ) → Says form bytes before now status text → (status ≡ ReadFault → ⊥) → now ≡ before
+kept form bytes before now Moved text says unlike = says.1
+kept form bytes before now Printed text says unlike = says.0
+kept form bytes before now (PathRefused x) text says unlike = says.0
+kept form bytes before now BadWords text says unlike = says.1
+kept form bytes before now (BadDescription x) text says unlike = says.1
+kept form bytes before now ReadFault text says unlike = absurd (unlike refl)
+kept form bytes before now NoMemory text says unlike = says.1
+kept form bytes before now other text says unlike = absurd says
+
+kept_end : (result status : Status) (text : List ℕ) (held : Option (List ℕ)) (faults : ℕ) (holds : Option (List ℕ)) (after : ℕ) → Ends result status text held faults holds after → (result ≡ WriteFault → ⊥) → result ≡ status
+kept_end result status text held faults holds after (inl e) wrote = e.0
+kept_end result status text held faults holds after (inr e) wrote = absurd (wrote e.0)
+
+pub none_swallowed : (form : Option Form) (bytes : Option (List ℕ)) (before now : ℕ) (result : Status) (held : Option (List ℕ)) (faults : ℕ) (holds : Option (List ℕ)) (after : ℕ)
+    → Answers form bytes before now result held faults holds after → (result ≡ ReadFault → ⊥) → (result ≡ WriteFault → ⊥) → now ≡ before
+none_swallowed form bytes before now result held faults holds after a read wrote =
+    let e = kept_end result a.status a.text held faults holds after a.ends wrote in
+    kept form bytes before now a.status a.text a.says (λ is. read (e ∙ is))

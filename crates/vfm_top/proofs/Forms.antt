@@ -1,5 +1,5 @@
 -- Words that are neither two nor four have no form.
-use Rattle.std.proofs.Common.{◌≡◌, ◌≢◌, ℕ, List, [], ◌∷◌, length, map, refl, arith}
+use Rattle.std.proofs.Common.{◌≡◌, ◌≢◌, ℕ, List, [], ◌∷◌, length, map, refl}
 use Rattle.std.specs.Prelude.{None}
 use Rattle.vfm_top.specs.Form.{form_of}
 

@@ -3,30 +3,14 @@ use Rattle.std.proofs.Common.{◌≡◌, ℕ, List, take, subst, ◌∙◌}
 use Rattle.std.specs.Prelude.{Option, Some, None, IfSome}
 use Rattle.vfm_top.specs.declared.words.Form.{Form}
 use Rattle.vfm_top.specs.declared.status.Status.{Status}
-use Rattle.vfm_top.specs.declared.status.Status.TheVariants.{Moved, Printed, BadWords, BadDescription, ReadFault, WriteFault, LinkFault, Refused, Unconfirmed, InDoubt, Differs, Aborted, ArcFailed, NoControl, NoMemory, PathRefused, Broken, BadReport, StateDiffers}
+use Rattle.vfm_top.specs.declared.status.Status.TheVariants.{Moved, BadDescription}
 use Rattle.vfm_top.specs.Says.{Says, Answers, bytes_read, read_limit}
 
 pub unread : (form : Option Form) (bytes : List ℕ) (before now : ℕ) (status : Status) (text : List ℕ) → Says form (Some bytes) before now status text → Says form None before now status text
 unread form bytes before now Moved text h =
-    (h.0, record { desc = h.1.desc; source = h.1.source; joint = h.1.joint; destination = h.1.destination; last = h.1.last; described = tt; valid = h.1.valid; move_made = h.1.move_made; told = h.1.told })
-unread form bytes before now Printed text h = h
-unread form bytes before now BadWords text h = h
-unread form bytes before now (BadDescription fault) text h = (h.0, tt, h.2)
-unread form bytes before now ReadFault text h = h
-unread form bytes before now WriteFault text h = h
-unread form bytes before now (LinkFault place) text h = h
-unread form bytes before now (Refused refusal) text h = h
-unread form bytes before now (Unconfirmed ours theirs) text h = h
-unread form bytes before now (InDoubt doubt) text h = h
-unread form bytes before now Differs text h = h
-unread form bytes before now (Aborted pass) text h = h
-unread form bytes before now (ArcFailed d to) text h = h
-unread form bytes before now (NoControl heard) text h = h
-unread form bytes before now NoMemory text h = h
-unread form bytes before now (PathRefused fault) text h = h
-unread form bytes before now (Broken place rule) text h = h
-unread form bytes before now (BadReport line) text h = h
-unread form bytes before now (StateDiffers section) text h = h
+    (h.0, h.1, record { desc = h.2.desc; source = h.2.source; joint = h.2.joint; destination = h.2.destination; last = h.2.last; described = tt; valid = h.2.valid; move_made = h.2.move_made; told = h.2.told })
+unread form bytes before now (BadDescription fault) text h = (h.0, h.1, tt, h.3)
+unread form bytes before now other text h = h
 
 -- the same for the whole of what a run does
 pub as_told : {form : Option Form} {before now : ℕ} {result : Status} {held : Option (List ℕ)} {faults : ℕ} {holds : Option (List ℕ)} {after : ℕ} (bytes : List ℕ) (told : Option (List ℕ)) → IfSome told (λ read. bytes ≡ read) → Answers form (Some bytes) before now result held faults holds after → Answers form told before now result held faults holds after

@@ -1,5 +1,5 @@
 -- What a run decides to say: which status comes when, and with which text.
-use Rattle.std.specs.Prelude.{◌≡◌, ℕ, List, take, Option, Some, None, IfSome, option_map, Result, Ok, Err, ◌⊎◌}
+use Rattle.std.specs.Prelude.{◌≡◌, ℕ, List, take, Option, Some, None, IfSome, option_map, Ok, Err, ◌⊎◌}
 use Rattle.vfm_types.specs.declared.state.MigState.{MigState}
 use Rattle.vfm_types.specs.declared.entry.Entry.{Entry}
 use Rattle.vfm_types.specs.declared.desc.Desc.{Desc}
@@ -54,18 +54,19 @@ pub record SaysPath (form : Option Form) (text : List ℕ) : Type 0 where
   pub told : text ≡ path_line route
 
 -- A status with its text, for words of this form, a description that has these bytes to be read, and a count of its
--- source's faults before and after. No other status comes.
+-- source's faults before and after. The count rose at a read fault, and stood still at every other status: no fault is
+-- invented, and none is swallowed. No other status comes.
 abbrev pub Says : Option Form → Option (List ℕ) → ℕ → ℕ → Status → List ℕ → Type 0
-Says form bytes before now Moved text = (form ≡ Some Run) × SaysMoved bytes text
-Says form bytes before now Printed text = SaysPath form text
+Says form bytes before now Moved text = (form ≡ Some Run) × (now ≡ before) × SaysMoved bytes text
+Says form bytes before now Printed text = (now ≡ before) × SaysPath form text
 Says form bytes before now (PathRefused fault) text =
-    (from to : MigState) × (flags : ℕ) × (form ≡ Some (Paths from to flags)) × (path_of from to flags ≡ Err fault)
+    (now ≡ before) × (from to : MigState) × (flags : ℕ) × (form ≡ Some (Paths from to flags)) × (path_of from to flags ≡ Err fault)
     × (text ≡ refused_line fault)
-Says form bytes before now BadWords text = (form ≡ None) × (text ≡ status_line BadWords)
+Says form bytes before now BadWords text = (form ≡ None) × (now ≡ before) × (text ≡ status_line BadWords)
 Says form bytes before now (BadDescription fault) text =
-    (form ≡ Some Run) × IfSome bytes (λ read. described read ≡ Err fault) × (text ≡ status_line (BadDescription fault))
+    (form ≡ Some Run) × (now ≡ before) × IfSome bytes (λ read. described read ≡ Err fault) × (text ≡ status_line (BadDescription fault))
 Says form bytes before now ReadFault text = (form ≡ Some Run) × Rose before now × (text ≡ status_line ReadFault)
-Says form bytes before now NoMemory text = (form ≡ Some Run) × (text ≡ status_line NoMemory)
+Says form bytes before now NoMemory text = (form ≡ Some Run) × (now ≡ before) × (text ≡ status_line NoMemory)
 Says form bytes before now _ text = ⊥
 
 -- A status was decided and its text was printed: wholly, and then the run answers that status; or a write failed, and

@@ -8,7 +8,7 @@ use Rattle.vfm_top.specs.Says.{moved_told}
 use Rattle.vfm_top.proofs.call.answer_bytes.Goals as goal
 
 pub returns : goal.returns
-returns g c = λ before now.
+returns g c = λ faults.
     let desc = c.in-Ok.desc in
     let moved = c.in-Ok-move_one.moved in
     let made = c.in-Ok-move_one.ensures in
@@ -16,6 +16,7 @@ returns g c = λ before now.
       status = Moved;
       text = report_text desc (status_line Moved) (Some (moved_told moved.source.entries moved.joint moved.destination.entries moved.last));
       says = (
+        refl,
         refl,
         record {
           desc = desc;

@@ -1,5 +1,5 @@
 -- A state more, and a state that stops the pen.
-use Rattle.std.proofs.Common.{◌++◌, ◌∷◌, [], List, ℕ, map, take, length, get_or, ◌≡◌, sym, ap, ◌∙◌, arith}
+use Rattle.std.proofs.Common.{◌++◌, ◌∷◌, [], map, take, arith}
 use Rattle.std.specs.Prelude.{codes}
 use Rattle.std.specs.List.{flat_map}
 use Rattle.std.proofs.lemmas.List.{take_all}
