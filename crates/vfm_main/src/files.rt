@@ -19,7 +19,9 @@ pub struct FileSource<'a, R: Files> {
 
 impl<'a, R: Files> FileSource<'a, R> {
     /// The file of this name, not opened yet.
-    pub fn of(rt: &'a R, name: &'a str) -> FileSource<'a, R> {
+    pub fn of(rt: &'a R, name: &'a str) -> FileSource<'a, R>
+        ensures { result.faults ≡ 0 }
+    {
         FileSource {
             rt,
             name,

@@ -1,6 +1,8 @@
 //! The program: files, standard output and the words of the command line, given to the top call.
 #![tactic(auto)]
 
+ghost use Rattle.std.specs.Prelude.{◌≡◌, [], map, string_bytes, slice_index_or};
+
 mod files;
 mod output;
 
@@ -12,8 +14,8 @@ use std::rt::{Env, Files};
 use std::sync::Wait;
 use std::thread::Threads;
 use std::{env, io};
-use vfm_outside::{NoBeat, ScriptWires};
-use vfm_top::{number, run};
+use vfm_outside::{NoBeat, ScriptWires, write_all};
+use vfm_top::{Status, number, run};
 
 const HELP: &str = "\
 vfmig: migrates a described machine with its devices, and prints what happened
@@ -27,51 +29,84 @@ vfmig --version            prints the version
 
 const VERSION: &str = "vfmig 0.1.0\n";
 
-/// The status of a run whose words found no memory.
-const NO_MEMORY: u8 = 13;
-
-/// The words of the command line, without the program's name.
-fn words<R: Env + Alloc<A = Global>>(rt: &R) -> Result<Vec<String>, io::Error> {
+/// The words of the command line, without the program's name. Where one of them isn't UTF-8 they have no form, and no
+/// words are given.
+fn words<R: Env + Alloc<A = Global>>(rt: &R) -> Result<Vec<String>, AllocError> {
     let mut words = Vec::new(rt.alloc());
-    for word in env::args(rt)?.skip(1) {
-        words.push(word)?;
+    match env::args(rt) {
+        Ok(args) => {
+            for word in args.skip(1) {
+                words.push(word)?;
+            }
+            Ok(words)
+        }
+        Err(error) => match error.kind() {
+            io::ErrorKind::InvalidData => Ok(words),
+            _ => Err(AllocError),
+        },
     }
-    Ok(words)
 }
 
 /// The word at a place, or nothing where there is none.
-fn word_at(words: &[String], at: usize) -> &str {
-    match words.get(at) {
-        Some(word) => word.as_str(),
-        None => "",
+fn word_at(words: &[String], at: usize) -> &str
+    ensures { result.now ≡ slice_index_or (map string_bytes words.now) at [] }
+{
+    if at < words.len() {
+        words[at].as_str()
+    } else {
+        ""
     }
 }
 
-fn main(rt: HostRuntime) -> ExitCode {
-    let Ok(words) = words(&rt) else {
-        return ExitCode::from(NO_MEMORY);
-    };
-    if words.len() == 1 && words[0].as_str() == "--help" {
-        let _ = rt.print(HELP);
-        return ExitCode::SUCCESS;
+/// What the program says of itself, where the words ask for that alone.
+fn own_text(words: &[String]) -> Option<&'static str> {
+    if words.len() != 1 {
+        return None;
     }
-    if words.len() == 1 && words[0].as_str() == "--version" {
-        let _ = rt.print(VERSION);
-        return ExitCode::SUCCESS;
+    match words[0].as_str() {
+        "--help" => Some(HELP),
+        "--version" => Some(VERSION),
+        _ => None,
     }
-    let mut desc = FileSource::of(&rt, word_at(words.as_slice(), 1));
-    let mut report = FileSource::of(&rt, word_at(words.as_slice(), 2));
-    let mut out = OutSink::of(&rt);
+}
+
+/// Prints a text.
+fn tell<R: Print>(rt: &R, text: &str) -> Status {
+    let mut out = OutSink::of(rt);
+    match write_all(&mut out, text.as_bytes()) {
+        Ok(()) => Status::Printed,
+        Err(_) => Status::WriteFault,
+    }
+}
+
+/// Does what the words ask for, with files and standard output.
+fn answer<H: Threads + Wait + Sync + Files + Print + Alloc<A = Global>>(
+    rt: &H,
+    words: &[String],
+) -> Status {
+    if let Some(text) = own_text(words) {
+        return tell(rt, text);
+    }
+    let mut desc = FileSource::of(rt, word_at(words, 1));
+    let mut report = FileSource::of(rt, word_at(words, 2));
+    let mut out = OutSink::of(rt);
     let mut wires = ScriptWires::of(rt.alloc(), None);
-    let status = run(
-        &rt,
+    run(
+        rt,
         rt.alloc(),
-        words.as_slice(),
+        words,
         &mut desc,
         &mut report,
         &mut wires,
         &mut out,
         &NoBeat,
-    );
+    )
+}
+
+fn main(rt: HostRuntime) -> ExitCode {
+    let status = match words(&rt) {
+        Ok(words) => answer(&rt, words.as_slice()),
+        Err(_) => Status::NoMemory,
+    };
     ExitCode::from(number(&status))
 }

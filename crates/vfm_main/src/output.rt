@@ -15,7 +15,9 @@ pub struct OutSink<'a, R: Print> {
 
 impl<'a, R: Print> OutSink<'a, R> {
     /// Standard output, which hasn't failed yet.
-    pub fn of(rt: &'a R) -> OutSink<'a, R> {
+    pub fn of(rt: &'a R) -> OutSink<'a, R>
+        ensures { result.faults ≡ 0 }
+    {
         OutSink { rt, faults: 0 }
     }
 }
