@@ -1,7 +1,11 @@
 //! The program: files, standard output and the words of the command line, given to the top call.
 #![tactic(auto)]
 
-ghost use Rattle.std.specs.Prelude.{◌≡◌, [], map, string_bytes, slice_index_or};
+ghost use Rattle.std.specs.Prelude.{◌≡◌, ◌⊎◌, ℕ, [], None, map, is_some, string_bytes, slice_index_or, IsTrue, IsFalse};
+ghost use Rattle.vfm_top.specs.declared.status.Status.TheVariants.{Printed, WriteFault};
+ghost use Rattle.vfm_top.specs.Form.{form_of};
+ghost use Rattle.vfm_top.specs.Says.{Answers};
+ghost use Rattle.vfm_main.specs.Own.{is_own};
 
 mod files;
 mod output;
@@ -59,19 +63,26 @@ fn word_at(words: &[String], at: usize) -> &str
 }
 
 /// What the program says of itself, where the words ask for that alone.
-fn own_text(words: &[String]) -> Option<&'static str> {
+fn own_text(words: &[String]) -> Option<&'static str>
+    ensures { is_some result ≡ is_own (map string_bytes words.now) }
+{
     if words.len() != 1 {
         return None;
     }
-    match words[0].as_str() {
-        "--help" => Some(HELP),
-        "--version" => Some(VERSION),
-        _ => None,
+    let word = words[0].as_bytes();
+    if word == b"--help".as_slice() {
+        return Some(HELP);
     }
+    if word == b"--version".as_slice() {
+        return Some(VERSION);
+    }
+    None
 }
 
 /// Prints a text.
-fn tell<R: Print>(rt: &R, text: &str) -> Status {
+fn tell<R: Print>(rt: &R, text: &str) -> Status
+    ensures { (result ≡ Printed) ⊎ (result ≡ WriteFault) }
+{
     let mut out = OutSink::of(rt);
     match write_all(&mut out, text.as_bytes()) {
         Ok(()) => Status::Printed,
@@ -79,11 +90,15 @@ fn tell<R: Print>(rt: &R, text: &str) -> Status {
     }
 }
 
-/// Does what the words ask for, with files and standard output.
+/// Does what the words ask for, with files and standard output. All but the program's own words are answered as the
+/// top call answers them, with sources and a sink that had no fault before.
 fn answer<H: Threads + Wait + Sync + Files + Print + Alloc<A = Global>>(
     rt: &H,
     words: &[String],
-) -> Status {
+) -> Status
+    ensures own { IsTrue (is_own (map string_bytes words.now)) → (result ≡ Printed) ⊎ (result ≡ WriteFault) }
+    ensures handed { IsFalse (is_own (map string_bytes words.now)) → (now after : ℕ) × Answers (form_of (map string_bytes words.now)) None 0 now result None 0 None after }
+{
     if let Some(text) = own_text(words) {
         return tell(rt, text);
     }

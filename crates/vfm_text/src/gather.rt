@@ -62,12 +62,13 @@ impl Gather {
         &self.bytes[..self.len]
     }
 
-    /// Writes all that is gathered, and begins anew.
+    /// Writes all that is gathered, and begins anew. At `Failed` a front of it is written, and all of it stays gathered.
     pub fn flush<S: Sink>(&mut self, out: &mut S) -> Result<(), Failed>
         ensures count { CountsFaults result (S.faults out.old) (S.faults out.new) }
         ensures ok { OnOk result (S.holds out.new ≡ told_then (S.holds out.old) self.old) }
         ensures empty { OnOk result (self.new ≡ []) }
         ensures failed { OnErr result ((n : ℕ) × (n < length self.old) × (S.holds out.new ≡ told_then (S.holds out.old) (take n self.old))) }
+        ensures kept { OnErr result (self.new ≡ self.old) }
     {
         write_all(out, self.as_slice())?;
         self.len = 0;
