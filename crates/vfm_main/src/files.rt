@@ -20,7 +20,8 @@ pub struct FileSource<'a, R: Files> {
 impl<'a, R: Files> FileSource<'a, R> {
     /// The file of this name, not opened yet.
     pub fn of(rt: &'a R, name: &'a str) -> FileSource<'a, R>
-        ensures { result.faults ≡ 0 }
+        ensures faults { result.faults ≡ 0 }
+        ensures name { result.name.now ≡ name.now }
     {
         FileSource {
             rt,

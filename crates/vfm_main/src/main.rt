@@ -4,7 +4,7 @@
 ghost use Rattle.std.specs.Prelude.{◌≡◌, ◌⊎◌, ℕ, [], None, map, is_some, string_bytes, slice_index_or, IsTrue, IsFalse};
 ghost use Rattle.vfm_top.specs.declared.status.Status.TheVariants.{Printed, WriteFault};
 ghost use Rattle.vfm_top.specs.Form.{form_of};
-ghost use Rattle.vfm_top.specs.Says.{Answers};
+ghost use Rattle.vfm_top.specs.Says.{Answers, Ends};
 ghost use Rattle.vfm_main.specs.Own.{is_own};
 
 mod files;
@@ -18,7 +18,7 @@ use std::rt::{Env, Files};
 use std::sync::Wait;
 use std::thread::Threads;
 use std::{env, io};
-use vfm_outside::{NoBeat, ScriptWires, write_all};
+use vfm_outside::{NoBeat, ScriptWires, Sink, write_all};
 use vfm_top::{Status, number, run};
 
 const HELP: &str = "\
@@ -80,11 +80,10 @@ fn own_text(words: &[String]) -> Option<&'static str>
 }
 
 /// Prints a text.
-fn tell<R: Print>(rt: &R, text: &str) -> Status
-    ensures { (result ≡ Printed) ⊎ (result ≡ WriteFault) }
+fn tell<S: Sink>(text: &str, out: &mut S) -> Status
+    ensures { Ends result Printed text.now (S.holds out.old) (S.faults out.old) (S.holds out.new) (S.faults out.new) }
 {
-    let mut out = OutSink::of(rt);
-    match write_all(&mut out, text.as_bytes()) {
+    match write_all(out, text.as_bytes()) {
         Ok(()) => Status::Printed,
         Err(_) => Status::WriteFault,
     }
@@ -99,12 +98,12 @@ fn answer<H: Threads + Wait + Sync + Files + Print + Alloc<A = Global>>(
     ensures own { IsTrue (is_own (map string_bytes words.now)) → (result ≡ Printed) ⊎ (result ≡ WriteFault) }
     ensures handed { IsFalse (is_own (map string_bytes words.now)) → (now after : ℕ) × Answers (form_of (map string_bytes words.now)) None 0 now result None 0 None after }
 {
+    let mut out = OutSink::of(rt);
     if let Some(text) = own_text(words) {
-        return tell(rt, text);
+        return tell(text, &mut out);
     }
     let mut desc = FileSource::of(rt, word_at(words, 1));
     let mut report = FileSource::of(rt, word_at(words, 2));
-    let mut out = OutSink::of(rt);
     let mut wires = ScriptWires::of(rt.alloc(), None);
     run(
         rt,
