@@ -89,8 +89,8 @@ fn tell<S: Sink>(text: &str, out: &mut S) -> Status
     }
 }
 
-/// Does what the words ask for, with files and standard output. All but the program's own words are answered as the
-/// top call answers them, with sources and a sink that had no fault before.
+/// Does what the words ask for, with files and standard output. All but the program's own words go to the top call.
+/// Of that the contract keeps what the words decide; whether its file or its output failed isn't seen outside.
 fn answer<H: Threads + Wait + Sync + Files + Print + Alloc<A = Global>>(
     rt: &H,
     words: &[String],
