@@ -6,7 +6,7 @@ use Rattle.vfm_types.specs.declared.desc.DevShape.{DevShape}
 -- a device with every state, a BAR of one block, and no jobs
 abbrev pub bare_device : DevShape
 bare_device =
-    record { name = 97 ∷ []; flags = 7; bar = 64; window = 1; tells = true; budget = 0; fails = 0; jobs = []; queue = [] }
+    record { name = 97 ∷ []; flags = 7; bars = 64 ∷ []; window = 1; tells = true; budget = 0; fails = 0; jobs = []; queue = [] }
 
 -- the same under a second and a third name
 abbrev pub second_device : DevShape

@@ -12,7 +12,7 @@ duo_failing_nic =
     record {
       name = 110 ∷ 105 ∷ 99 ∷ [];
       flags = 7;
-      bar = 128;
+      bars = 128 ∷ [];
       window = 2;
       tells = true;
       budget = 6;
@@ -26,7 +26,7 @@ duo_failing_gpu =
     record {
       name = 103 ∷ 112 ∷ 117 ∷ [];
       flags = 7;
-      bar = 128;
+      bars = 128 ∷ [];
       window = 2;
       tells = true;
       budget = 4;

@@ -12,7 +12,7 @@ mono_nvme =
     record {
       name = 110 ∷ 118 ∷ 109 ∷ 101 ∷ [];
       flags = 3;
-      bar = 64;
+      bars = 64 ∷ [];
       window = 3;
       tells = true;
       budget = 4;

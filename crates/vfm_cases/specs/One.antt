@@ -12,7 +12,7 @@ one_device =
     record {
       name = 97 ∷ [];
       flags = 1;
-      bar = 64;
+      bars = 64 ∷ [];
       window = 1;
       tells = true;
       budget = 1;

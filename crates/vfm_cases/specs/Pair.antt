@@ -14,7 +14,7 @@ nic =
     record {
       name = 110 ∷ 105 ∷ 99 ∷ [];
       flags = 7;
-      bar = 4096;
+      bars = 4096 ∷ [];
       window = 2;
       tells = true;
       budget = 2;
@@ -28,7 +28,7 @@ gpu =
     record {
       name = 103 ∷ 112 ∷ 117 ∷ [];
       flags = 7;
-      bar = 4096;
+      bars = 4096 ∷ [];
       window = 2;
       tells = true;
       budget = 1;

@@ -9,10 +9,10 @@ use Rattle.vfm_types.specs.declared.entry.Entry.TheVariants.{Issue, Deliver, Com
 use Rattle.vfm_cases.specs.Bare.{bare_device, second_device, bare_machine}
 
 abbrev pub writing_device : DevShape
-writing_device = record bare_device { bar = 128; budget = 1; jobs = Write 268959808 (161 ∷ []) ∷ []; queue = 0 ∷ [] }
+writing_device = record bare_device { bars = 128 ∷ []; budget = 1; jobs = Write 268959808 (161 ∷ []) ∷ []; queue = 0 ∷ [] }
 
 abbrev pub peers : Desc
-peers = record bare_machine { devices = writing_device ∷ (record second_device { bar = 128 }) ∷ [] }
+peers = record bare_machine { devices = writing_device ∷ (record second_device { bars = 128 ∷ [] }) ∷ [] }
 
 -- the first device is held while its write is outstanding
 abbrev pub peers_held : List Entry

@@ -12,7 +12,7 @@ reading =
     record bare_machine {
       rounds = 2;
       devices =
-          (record bare_device { bar = 128 })
+          (record bare_device { bars = 128 ∷ [] })
           ∷ (record second_device { budget = 1; jobs = Write 268435516 (replicate 8 5) ∷ []; queue = 0 ∷ [] }) ∷ [];
     }
 

@@ -12,7 +12,7 @@ solo_disk =
     record {
       name = 100 ∷ 105 ∷ 115 ∷ 107 ∷ [];
       flags = 5;
-      bar = 128;
+      bars = 128 ∷ [];
       window = 2;
       tells = true;
       budget = 5;

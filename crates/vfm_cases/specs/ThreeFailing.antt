@@ -12,7 +12,7 @@ three_failing_nic =
     record {
       name = 110 ∷ 105 ∷ 99 ∷ [];
       flags = 7;
-      bar = 64;
+      bars = 64 ∷ [];
       window = 2;
       tells = true;
       budget = 4;
@@ -26,7 +26,7 @@ three_failing_gpu =
     record {
       name = 103 ∷ 112 ∷ 117 ∷ [];
       flags = 3;
-      bar = 64;
+      bars = 64 ∷ [];
       window = 1;
       tells = false;
       budget = 3;
@@ -40,7 +40,7 @@ three_failing_tap =
     record {
       name = 116 ∷ 97 ∷ 112 ∷ [];
       flags = 7;
-      bar = 64;
+      bars = 64 ∷ [];
       window = 2;
       tells = true;
       budget = 3;

@@ -6,7 +6,7 @@ ghost use Rattle.vfm_types.specs.Requests.{plain};
 ghost use Rattle.vfm_types.specs.Deliveries.{machine_of, delivers};
 ghost use Rattle.vfm_types.specs.Serial.{serial};
 ghost use Rattle.vfm_types.specs.Marks.{is_in_set, set_size};
-ghost use Rattle.vfm_types.specs.PageSet.{passing};
+ghost use Rattle.vfm_base.specs.PageSet.{numbers_where};
 ghost use Rattle.vfm_plain.specs.Legal.{broken};
 ghost use Rattle.vfm_plain.specs.Ended.{has_ended, is_last_ended};
 ghost use Rattle.vfm_cases.specs.Pair.{pair, pair_source, pair_joined};
@@ -20,7 +20,7 @@ pub fn pair_is_moved()
 
 /// The second pass is over the page that the doorbell's request wrote, and the last one over nothing.
 pub fn pair_copies_what_was_written()
-    ensures second { passing (λ p. is_in_set pair p (reverse (take 208 pair_source))) 0 64 ≡ 2 ∷ [] }
+    ensures second { numbers_where (λ p. is_in_set pair p (reverse (take 208 pair_source))) 0 64 ≡ 2 ∷ [] }
     ensures last { set_size pair (reverse pair_source) ≡ 0 }
 {}
 

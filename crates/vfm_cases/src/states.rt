@@ -3,9 +3,9 @@
 ghost use Rattle.std.specs.Prelude.{◌≡◌, ◌++◌, [], ◌∷◌, Some, None, true, false, reverse, take};
 ghost use Rattle.vfm_types.specs.declared.entry.Entry.TheVariants.{Deliver, Abort, Arc};
 ghost use Rattle.vfm_types.specs.declared.state.MigState.TheVariants.{Stop, Running, StopCopy, Resuming, RunningP2p, PreCopy, PreCopyP2p};
-ghost use Rattle.vfm_types.specs.Arcs.{state_of, hold_of, level_of, arc_count};
+ghost use Rattle.vfm_types.specs.Arcs.{state_of, hold_of, effective_state, arc_count};
 ghost use Rattle.vfm_types.specs.Phases.{is_on, is_failed, is_aborted, is_joint, is_resumed};
-ghost use Rattle.vfm_types.specs.Words.{is_quiet, none_stopped, is_allowed, is_barred, all_stand_in};
+ghost use Rattle.vfm_types.specs.Words.{is_quiet, none_stopped, is_job_allowed, is_barred, all_stand_in};
 ghost use Rattle.vfm_types.specs.Outstanding.{outstanding_of, issue_count, complete_count};
 ghost use Rattle.vfm_types.specs.Desc.{job_at};
 ghost use Rattle.vfm_cases.specs.One.{one, one_source, one_joined, one_failing, one_fails_second};
@@ -25,7 +25,7 @@ pub fn states_follow_arcs()
 /// A hold lowers the level before the state; the arc takes it away, and so does giving up.
 pub fn holds_lower_the_level()
     ensures state { state_of 0 (reverse peers_held) ≡ Running }
-    ensures level { level_of 0 (reverse peers_held) ≡ RunningP2p }
+    ensures level { effective_state 0 (reverse peers_held) ≡ RunningP2p }
     ensures arc { hold_of 0 (reverse peers_quiet) ≡ None }
     ensures other { hold_of 1 (reverse peers_held) ≡ None }
     ensures aborted { hold_of 0 (Abort ∷ reverse peers_held) ≡ None }
@@ -34,8 +34,8 @@ pub fn holds_lower_the_level()
 /// Below the running level a write into a BAR is barred.
 pub fn bar_writes_are_barred()
     ensures barred { is_barred peers 0 (job_at peers 0 0) ≡ true }
-    ensures running { is_allowed peers 0 (job_at peers 0 0) [] ≡ true }
-    ensures held { is_allowed peers 0 (job_at peers 0 0) (reverse peers_held) ≡ false }
+    ensures running { is_job_allowed peers 0 (job_at peers 0 0) [] ≡ true }
+    ensures held { is_job_allowed peers 0 (job_at peers 0 0) (reverse peers_held) ≡ false }
 {}
 
 /// Quiet needs every one of several devices.

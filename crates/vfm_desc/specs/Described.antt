@@ -110,8 +110,8 @@ parsed bytes = do
   ok_or (read bytes) fault.NotJson
 
 -- what these bytes describe
-unfoldable pub described : List ℕ → Result Desc DescFault
-described bytes = do
+unfoldable pub description_of : List ℕ → Result Desc DescFault
+description_of bytes = do
   value ← parsed bytes
   desc ← desc_in value
   sound desc

@@ -66,9 +66,9 @@ fn desc(alloc: Global, object: &Value) -> Result<Desc, DescFault>
 
 /// What the bytes describe: a valid description, or the first thing that is wrong with them. The bytes are JSON of at
 /// most 16,777,216 bytes.
-#[tactic(auto, unfolding(crate::specs::Described::described))]
+#[tactic(auto, unfolding(crate::specs::Described::description_of))]
 pub fn read_desc(alloc: Global, bytes: &[u8]) -> Result<Desc, DescFault>
-    ensures value { Gives (λ desc. desc) result (spec.described bytes.now) }
+    ensures value { Gives (λ desc. desc) result (spec.description_of bytes.now) }
     ensures valid { IfOk result IsValid }
     ensures built { IfOk result IsBuilt }
 {

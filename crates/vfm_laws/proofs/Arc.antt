@@ -15,11 +15,11 @@ use Rattle.vfm_types.specs.declared.state.MigState.{MigState}
 use Rattle.vfm_types.specs.declared.state.MigState.TheVariants.{Stop, Running, StopCopy, RunningP2p, PreCopy}
 use Rattle.vfm_types.specs.State.{has_p2p}
 use Rattle.vfm_types.specs.Paths.{next_towards}
-use Rattle.vfm_types.specs.Least.{all_below}
+use Rattle.vfm_base.specs.Least.{all_below}
 use Rattle.vfm_types.specs.Phases.{is_joint, is_aborted, is_resumed, is_on}
 use Rattle.vfm_types.specs.Arcs.{state_of, hold_of, is_p2p, is_stopped}
 use Rattle.vfm_types.specs.Words.{has_barred}
-use Rattle.vfm_laws.specs.Standing.{is_hold_step, is_arc_step, is_tame, StateKept, EachStands, TameTogether, JointStands, KeepsStates}
+use Rattle.vfm_laws.specs.Standing.{is_hold_step, is_arc_step, is_quiet_state, StateKept, EachStands, TameTogether, JointStands, KeepsStates}
 use Rattle.vfm_laws.proofs.Below.{all_below_at}
 use Rattle.vfm_laws.proofs.Flags.{several_p2p}
 use Rattle.vfm_laws.proofs.Conditions.{QuietFor, OpenWay, early, held, final, ArcWay, homeward, outward, arc_met, arc_way, no_move}
@@ -100,7 +100,7 @@ arc_own D past e to step quiet old = record {
 -- the device that moves is tame afterwards where another is stopped
 moved_tame : (D : Desc) (past : List Entry) (e : ℕ) (to : MigState) → QuietFor D e to past
     → (state_of e past ≡ Stop → to ≡ Running → ⊥)
-    → (k : ℕ) → k < device_count D → is_stopped (state_of k past) ≡ true → TameCause (state_of e past) to → is_tame to ≡ true
+    → (k : ℕ) → k < device_count D → is_stopped (state_of k past) ≡ true → TameCause (state_of e past) to → is_quiet_state to ≡ true
 moved_tame D past e to quiet never k inside still (stays tame) = tame
 moved_tame D past e to quiet never k inside still (leaps from_stop to_running) = absurd (never from_stop to_running)
 moved_tame D past e to quiet never k inside still (leaves here) =
@@ -109,12 +109,12 @@ moved_tame D past e to quiet never k inside still (leaves here) =
 
 -- another device is tame where this one stops
 others_tame : (D : Desc) (past : List Entry) (e : ℕ) (to : MigState) → e < device_count D → QuietFor D e to past → TameTogether D past
-    → (k : ℕ) → k < device_count D → (e ≡ k → ⊥) → StopCause (state_of e past) to → is_tame (state_of k past) ≡ true
+    → (k : ℕ) → k < device_count D → (e ≡ k → ⊥) → StopCause (state_of e past) to → is_quiet_state (state_of k past) ≡ true
 others_tame D past e to issuer quiet together k inside other (was_stopped still) = together e k issuer inside still
 others_tame D past e to issuer quiet together k inside other (halts here) =
     ⊎_elim (λ (one : (device_count D == 1) ≡ true). absurd (alone (eqb-true (device_count D) 1 one)))
-    (λ (all : all_below (device_count D) (λ d. is_tame (state_of d past)) ≡ true). all_below_at (device_count D) (λ d. is_tame (state_of d past)) k all inside)
-    (or_cases (device_count D == 1) (all_below (device_count D) (λ d. is_tame (state_of d past))) (quiet.stopped here).1)
+    (λ (all : all_below (device_count D) (λ d. is_quiet_state (state_of d past)) ≡ true). all_below_at (device_count D) (λ d. is_quiet_state (state_of d past)) k all inside)
+    (or_cases (device_count D == 1) (all_below (device_count D) (λ d. is_quiet_state (state_of d past))) (quiet.stopped here).1)
   where
     alone : device_count D ≡ 1 → ⊥
     alone one = other (omega (arith, one, inside, issuer))
@@ -123,14 +123,14 @@ others_tame D past e to issuer quiet together k inside other (halts here) =
 arc_tame : (D : Desc) (past : List Entry) (e : ℕ) (to : MigState) → IsValid D → e < device_count D → ArcWay D past e to → QuietFor D e to past
     → is_arc_step (state_of e past) to ≡ true → KeepsStates D past → TameTogether D (Arc e to ∷ past)
 arc_tame D past e to valid issuer way quiet step kept a b inside_a inside_b still =
-    by_bool (e == b) (λ x. (e == b) ≡ x → is_tame (if x then to else state_of b past) ≡ true)
-    (λ same_b f. by_bool (e == a) (λ y. (e == a) ≡ y → is_stopped (if y then to else state_of a past) ≡ true → is_tame to ≡ true)
+    by_bool (e == b) (λ x. (e == b) ≡ x → is_quiet_state (if x then to else state_of b past) ≡ true)
+    (λ same_b f. by_bool (e == a) (λ y. (e == a) ≡ y → is_stopped (if y then to else state_of a past) ≡ true → is_quiet_state to ≡ true)
     (λ same_a g h. or_right (is_p2p to) (is_stopped to) h) (λ other_a g h. moves (eqb-false e a g) h) refl still)
-    (λ other_b f. by_bool (e == a) (λ y. (e == a) ≡ y → is_stopped (if y then to else state_of a past) ≡ true → is_tame (state_of b past) ≡ true)
+    (λ other_b f. by_bool (e == a) (λ y. (e == a) ≡ y → is_stopped (if y then to else state_of a past) ≡ true → is_quiet_state (state_of b past) ≡ true)
     (λ same_a g h. others_tame D past e to issuer quiet kept.1 b inside_b (eqb-false e b f) (stop_cause (state_of e past) to step h))
     (λ other_a g h. kept.1 a b inside_a inside_b h) refl still) refl
   where
-    moves : (e ≡ a → ⊥) → is_stopped (state_of a past) ≡ true → is_tame to ≡ true
+    moves : (e ≡ a → ⊥) → is_stopped (state_of a past) ≡ true → is_quiet_state to ≡ true
     moves other h =
         moved_tame D past e to quiet (no_leap D past e to (beside_p2p D valid e a issuer inside_a other) (kept.0 e issuer) way) a inside_a h
         (tame_cause (state_of e past) to step (kept.1 a e inside_a issuer h))

@@ -8,19 +8,19 @@ use Rattle.vfm_types.specs.declared.job.Region.TheVariants.{Page, Bar}
 use Rattle.vfm_types.specs.declared.desc.Desc.{Desc}
 use Rattle.vfm_types.specs.declared.entry.Entry.{Entry}
 use Rattle.vfm_types.specs.declared.entry.Entry.TheVariants.{Deliver}
-use Rattle.vfm_types.specs.Desc.{device_count, shape_at, job_at, bar_bytes}
-use Rattle.vfm_types.specs.Region.{is_in_page, is_in_bar, bar_base, bar_owner, bar_offset}
-use Rattle.vfm_types.specs.Job.{address_of, length_of, place_of, no_place, is_bar, is_aimed_at_bar}
+use Rattle.vfm_types.specs.Desc.{device_count, shape_at, job_at, bar_size}
+use Rattle.vfm_types.specs.Region.{is_in_page, is_in_bar, bar_base, bar_owner, bar_number, bar_offset, offset_in_bars}
+use Rattle.vfm_types.specs.Job.{address_of, length_of, place_of, page_zero_if_nowhere, is_bar, is_aimed_at_bar}
 use Rattle.vfm_types.specs.Machine.{device_of}
-use Rattle.vfm_types.specs.Requests.{job_number, job_of}
+use Rattle.vfm_types.specs.Requests.{job_or_zero, job_of}
 use Rattle.vfm_types.specs.Deliveries.{machine_of}
-use Rattle.vfm_types.specs.Outstanding.{Outstanding, outstanding_of, is_undelivered, job_outstanding}
+use Rattle.vfm_types.specs.Outstanding.{Outstanding, outstanding_of, is_undelivered, outstanding_job_or_zero}
 use Rattle.vfm_types.specs.Arcs.{state_of, is_running, is_stopped}
 use Rattle.vfm_types.specs.Words.{is_barred, has_barred}
 use Rattle.vfm_types.specs.Valid.{IsValid}
 use Rattle.vfm_plain.specs.Legal.{IsLegal}
 use Rattle.vfm_plain.specs.Clean.{IsClean, is_awake}
-use Rattle.vfm_laws.specs.Standing.{is_tame}
+use Rattle.vfm_laws.specs.Standing.{is_quiet_state}
 use Rattle.vfm_laws.proofs.Rising.{by_bool}
 use Rattle.vfm_laws.proofs.Conditions.{deliver_met}
 use Rattle.vfm_laws.proofs.Steps.{running_wild}
@@ -38,16 +38,16 @@ pub bar_inside : (D : Desc) (job : Job) (t : ℕ) → (place_of D job).region �
 bar_inside D job t aimed =
     by_bool (is_in_page D at len)
     (λ b. (unwrap_or (if b then Some (record { region = Page (at / D.page); offset = at % D.page })
-    else (if is_in_bar D at len then Some (record { region = Bar (bar_owner at); offset = bar_offset at }) else None)) no_place).region ≡ Bar t
+    else (if is_in_bar D at len then Some (record { region = Bar (bar_owner at); offset = offset_in_bars D at }) else None)) page_zero_if_nowhere).region ≡ Bar t
     → t < device_count D)
     (λ page h. absurd (page_bar (at / D.page) t h))
     (λ beyond h. by_bool (is_in_bar D at len)
-    (λ c. is_in_bar D at len ≡ c → (unwrap_or (if c then Some (record { region = Bar (bar_owner at); offset = bar_offset at }) else None) no_place).region ≡ Bar t
+    (λ c. is_in_bar D at len ≡ c → (unwrap_or (if c then Some (record { region = Bar (bar_owner at); offset = offset_in_bars D at }) else None) page_zero_if_nowhere).region ≡ Bar t
     → t < device_count D)
     (λ bar e g. subst (λ (k : ℕ). k < device_count D) (bar_same (bar_owner at) t g)
     (ltb-true (bar_owner at) (device_count D)
     (and_parts (nat_le bar_base at) (nat_lt (bar_owner at) (device_count D))
-    (and_parts (nat_le bar_base at && nat_lt (bar_owner at) (device_count D)) (nat_le (bar_offset at + len) (bar_bytes (shape_at D (bar_owner at)))) e).0).1))
+    (and_parts (nat_le bar_base at && nat_lt (bar_owner at) (device_count D)) (nat_le (bar_offset at + len) (bar_size (shape_at D (bar_owner at)) (bar_number at))) e).0).1))
     (λ nowhere e g. absurd (page_bar 0 t g)) refl h)
     aimed
   where
@@ -59,11 +59,11 @@ bar_inside D job t aimed =
 
 -- a test that the job of an undelivered request passes, one of the outstanding requests passes
 test_outstanding : (test : ℕ → Bool) (n : ℕ) (requests : List Outstanding) → is_undelivered n requests ≡ true
-    → test (job_outstanding n requests) ≡ true → list_any (λ r. test r.job) requests ≡ true
+    → test (outstanding_job_or_zero n requests) ≡ true → list_any (λ r. test r.job) requests ≡ true
 test_outstanding test n [] undelivered passes = absurd (false≢true undelivered)
 test_outstanding test n (r ∷ requests) undelivered passes =
     by_bool (r.number == n)
-    (λ b. (if b then not r.is_delivered else is_undelivered n requests) ≡ true → test (if b then r.job else job_outstanding n requests) ≡ true
+    (λ b. (if b then not r.is_delivered else is_undelivered n requests) ≡ true → test (if b then r.job else outstanding_job_or_zero n requests) ≡ true
     → (test r.job || list_any (λ q. test q.job) requests) ≡ true)
     (λ same h g. or_left (test r.job) (list_any (λ q. test q.job) requests) g)
     (λ other h g. or_right (test r.job) (list_any (λ q. test q.job) requests) (test_outstanding test n requests h g))
@@ -88,11 +88,11 @@ module _ (D : Desc) (valid : IsValid D) (past : List Entry) (d n : ℕ) (legal :
       requests : List Outstanding
       requests = outstanding_of D d past
 
-      job : job_number n (device_of (machine_of D past) d).pending ≡ job_outstanding n requests
+      job : job_or_zero n (device_of (machine_of D past) d).pending ≡ outstanding_job_or_zero n requests
       job = same_job D past d valid legal.2 issuer n undelivered
 
-      barred : is_barred D d (job_at D d (job_outstanding n requests)) ≡ true
-      barred = or_left (is_aimed_at_bar D (job_at D d (job_outstanding n requests))) (not (shape_at D d).tells)
+      barred : is_barred D d (job_at D d (outstanding_job_or_zero n requests)) ≡ true
+      barred = or_left (is_aimed_at_bar D (job_at D d (outstanding_job_or_zero n requests))) (not (shape_at D d).tells)
           (ap (λ (j : ℕ). is_aimed_at_bar D (job_at D d j)) (sym job) ∙ ap is_bar aimed)
 
       some : has_barred D d requests ≡ true
@@ -103,7 +103,7 @@ module _ (D : Desc) (valid : IsValid D) (past : List Entry) (d n : ℕ) (legal :
           (λ slow. both_ways (has_barred D d requests) (((keeps_states D valid past legal.2).0 d issuer).unbarred slow) some)
 
       asleep : is_stopped (state_of t past) ≡ true → ⊥
-      asleep still = both_ways (is_tame (state_of d past)) (running_wild (state_of d past) running)
+      asleep still = both_ways (is_quiet_state (state_of d past)) (running_wild (state_of d past) running)
           ((keeps_states D valid past legal.2).1 t d (bar_inside D (job_of D (machine_of D past) d n) t aimed) issuer still)
 
 -- a region is awake where it is no stopped device's BAR

@@ -13,40 +13,46 @@ use Rattle.vfm_types.specs.State.{has_pre_copy}
 use Rattle.vfm_types.specs.Desc.{device_count, shape_at}
 use Rattle.vfm_types.specs.Paths.{same_state, next_towards}
 use Rattle.vfm_types.specs.Machine.{DeviceState, device_of}
-use Rattle.vfm_types.specs.Requests.{fences, job_number}
+use Rattle.vfm_types.specs.Requests.{fences, job_or_zero}
 use Rattle.vfm_types.specs.Deliveries.{machine_of}
 use Rattle.vfm_types.specs.Phases.{is_begun, is_joint, is_aborted, is_resumed, is_failed, is_on, is_last_begun, pass_count}
 use Rattle.vfm_types.specs.Arcs.{state_of, hold_of, arc_count, is_stopped}
 use Rattle.vfm_types.specs.Outstanding.{Outstanding, outstanding_of, is_undelivered, is_arrived, unissued}
-use Rattle.vfm_types.specs.Least.{all_below}
+use Rattle.vfm_base.specs.Least.{all_below}
 use Rattle.vfm_types.specs.Marks.{has_reported}
-use Rattle.vfm_types.specs.Blocks.{is_pass_ended}
+use Rattle.vfm_types.specs.Blocks.{is_no_pass_open}
 use Rattle.vfm_types.specs.Words.{is_nothing, has_fence, has_barred, is_quiet, none_stopped, all_stand_in, is_decided, is_next_towards, is_held_for, is_way_open}
-use Rattle.vfm_plain.specs.Rules.{Condition, first_broken, fault_of, is_the, first_number, has_turn, may_go, may_start, may_move, goes_home, is_right_arc, is_right_fail, is_quiet_for, is_next_pass, is_pass_wanted, enters_p2p, stops, leaves_p2p}
+use Rattle.vfm_base.specs.Tests.{first_failed}
+use Rattle.vfm_plain.specs.Condition.{Condition, is_exactly}
+use Rattle.vfm_plain.specs.Rules.{fault_of}
+use Rattle.vfm_plain.specs.IssueRules.{first_number, is_next_to_issue, is_request_allowed, may_issue_yet}
+use Rattle.vfm_plain.specs.ArcRules.{may_take_arcs, is_arc_home, is_right_arc, is_quiet_for_arc, is_entering_p2p, is_stopping, is_leaving_p2p}
+use Rattle.vfm_plain.specs.FailRules.{is_right_fail}
+use Rattle.vfm_plain.specs.PassRules.{is_next_pass, is_pass_wanted}
 use Rattle.vfm_laws.proofs.Walks.{some_none}
 use Rattle.vfm_laws.proofs.Rising.{by_bool}
 use Rattle.vfm_laws.proofs.Below.{all_below_at}
 use Rattle.vfm_laws.proofs.Steps.{same_is}
 
 -- where no condition is broken, the first holds and none of the others is broken
-pub met : (holds : Bool) (rule : Rule) (others : List Condition) → first_broken ((holds, rule) ∷ others) ≡ None → (holds ≡ true) × (first_broken others ≡ None)
+pub met : (holds : Bool) (rule : Rule) (others : List Condition) → first_failed ((holds, rule) ∷ others) ≡ None → (holds ≡ true) × (first_failed others ≡ None)
 met true rule others unbroken = (refl, unbroken)
 met false rule others unbroken = absurd (some_none rule unbroken)
 
 -- whose turn it is, over a device and its outstanding requests
 pub record HasTurn (D : Desc) (d n : ℕ) (device : DeviceState) (requests : List Outstanding) : Type 0 where
-  pub first : is_the n (first_number (unissued requests device.pending)) ≡ true
+  pub first : is_exactly n (first_number (unissued requests device.pending)) ≡ true
   pub room : length requests < (shape_at D d).window
   pub unfenced : has_fence D d requests ≡ false
-  pub fence : (not (fences D d (job_number n device.pending)) || is_nothing requests) ≡ true
+  pub fence : (not (fences D d (job_or_zero n device.pending)) || is_nothing requests) ≡ true
 
-pub turn_parts : (D : Desc) (d n : ℕ) (past : List Entry) → has_turn D d n past ≡ true → HasTurn D d n (device_of (machine_of D past) d) (outstanding_of D d past)
+pub turn_parts : (D : Desc) (d n : ℕ) (past : List Entry) → is_next_to_issue D d n past ≡ true → HasTurn D d n (device_of (machine_of D past) d) (outstanding_of D d past)
 turn_parts D d n past turn =
     let pending = (device_of (machine_of D past) d).pending in
     let requests = outstanding_of D d past in
-    let front = is_the n (first_number (unissued requests pending)) in
+    let front = is_exactly n (first_number (unissued requests pending)) in
     let room = nat_lt (length requests) (shape_at D d).window in
-    let last = not (fences D d (job_number n pending)) || is_nothing requests in
+    let last = not (fences D d (job_or_zero n pending)) || is_nothing requests in
     let all = and_parts (front && room && not (has_fence D d requests)) last turn in
     let three = and_parts (front && room) (not (has_fence D d requests)) all.0 in
     let two = and_parts front room three.0 in
@@ -58,11 +64,11 @@ turn_parts D d n past turn =
     }
 
 pub issue_met : (D : Desc) (past : List Entry) (d n : ℕ) → fault_of D past (Issue d n) ≡ None
-    → HasTurn D d n (device_of (machine_of D past) d) (outstanding_of D d past) × (may_go D d n past ≡ true) × (may_start D d past ≡ true)
+    → HasTurn D d n (device_of (machine_of D past) d) (outstanding_of D d past) × (is_request_allowed D d n past ≡ true) × (may_issue_yet D d past ≡ true)
 issue_met D past d n unbroken =
-    let turn = met (has_turn D d n past) Turn ((may_go D d n past, Barred) ∷ (may_start D d past, Start) ∷ []) unbroken in
-    let going = met (may_go D d n past) Barred ((may_start D d past, Start) ∷ []) turn.1 in
-    let start = met (may_start D d past) Start [] going.1 in
+    let turn = met (is_next_to_issue D d n past) Turn ((is_request_allowed D d n past, Barred) ∷ (may_issue_yet D d past, Start) ∷ []) unbroken in
+    let going = met (is_request_allowed D d n past) Barred ((may_issue_yet D d past, Start) ∷ []) turn.1 in
+    let start = met (may_issue_yet D d past) Start [] going.1 in
     (turn_parts D d n past turn.0, going.0, start.0)
 
 pub deliver_met : (D : Desc) (past : List Entry) (d n : ℕ) → fault_of D past (Deliver d n) ≡ None → is_undelivered n (outstanding_of D d past) ≡ true
@@ -73,30 +79,30 @@ complete_met D past d n unbroken = (met (is_arrived n (outstanding_of D d past))
 
 -- what the quiet of an arc asks for, by what the arc does
 pub record QuietFor (D : Desc) (d : ℕ) (to : MigState) (past : List Entry) : Type 0 where
-  pub enters : enters_p2p (state_of d past) to ≡ true → has_barred D d (outstanding_of D d past) ≡ false
-  pub stopped : stops (state_of d past) to ≡ true → (outstanding_of D d past ≡ []) × (is_quiet D past ≡ true)
-  pub leaves : leaves_p2p (state_of d past) to ≡ true → none_stopped D past ≡ true
+  pub enters : is_entering_p2p (state_of d past) to ≡ true → has_barred D d (outstanding_of D d past) ≡ false
+  pub stopped : is_stopping (state_of d past) to ≡ true → (outstanding_of D d past ≡ []) × (is_quiet D past ≡ true)
+  pub leaves : is_leaving_p2p (state_of d past) to ≡ true → none_stopped D past ≡ true
 
 -- the second test, where the first holds
 pub where_first : (a b : Bool) → (not a || b) ≡ true → a ≡ true → b ≡ true
 where_first true b test here = test
 where_first false b test here = absurd (false≢true here)
 
-pub quiet_parts : (D : Desc) (d : ℕ) (to : MigState) (past : List Entry) → is_quiet_for D d to past ≡ true → QuietFor D d to past
+pub quiet_parts : (D : Desc) (d : ℕ) (to : MigState) (past : List Entry) → is_quiet_for_arc D d to past ≡ true → QuietFor D d to past
 quiet_parts D d to past quiet =
     let from = state_of d past in
     let requests = outstanding_of D d past in
-    let first = not (enters_p2p from to) || not (has_barred D d requests) in
-    let second = not (stops from to) || (is_nothing requests && is_quiet D past) in
-    let third = not (leaves_p2p from to) || none_stopped D past in
+    let first = not (is_entering_p2p from to) || not (has_barred D d requests) in
+    let second = not (is_stopping from to) || (is_nothing requests && is_quiet D past) in
+    let third = not (is_leaving_p2p from to) || none_stopped D past in
     let all = and_parts (first && second) third quiet in
     let two = and_parts first second all.0 in
     record {
-      enters = λ here. not-true (has_barred D d requests) (where_first (enters_p2p from to) (not (has_barred D d requests)) two.0 here);
+      enters = λ here. not-true (has_barred D d requests) (where_first (is_entering_p2p from to) (not (has_barred D d requests)) two.0 here);
       stopped = λ here.
-          let both = and_parts (is_nothing requests) (is_quiet D past) (where_first (stops from to) (is_nothing requests && is_quiet D past) two.1 here) in
+          let both = and_parts (is_nothing requests) (is_quiet D past) (where_first (is_stopping from to) (is_nothing requests && is_quiet D past) two.1 here) in
           (nil_from_length requests (eqb-true (length requests) 0 both.0), both.1);
-      leaves = λ here. where_first (leaves_p2p from to) (none_stopped D past) all.1 here;
+      leaves = λ here. where_first (is_leaving_p2p from to) (none_stopped D past) all.1 here;
     }
 
 pub hold_met : (D : Desc) (past : List Entry) (d : ℕ) (to : MigState) → fault_of D past (Hold d to) ≡ None
@@ -111,11 +117,11 @@ hold_met D past d to unbroken =
     (not-true (is_stopped (state_of d past)) parts.0, same_is to (next_towards (state_of d past) StopCopy (shape_at D d).flags) parts.1)
 
 pub arc_met : (D : Desc) (past : List Entry) (d : ℕ) (to : MigState) → fault_of D past (Arc d to) ≡ None
-    → (may_move past ≡ true) × (is_right_arc D d to past ≡ true) × QuietFor D d to past
+    → (may_take_arcs past ≡ true) × (is_right_arc D d to past ≡ true) × QuietFor D d to past
 arc_met D past d to unbroken =
-    let order = met (may_move past) Order ((is_right_arc D d to past, Path) ∷ (is_quiet_for D d to past, Quiet) ∷ []) unbroken in
-    let right = met (is_right_arc D d to past) Path ((is_quiet_for D d to past, Quiet) ∷ []) order.1 in
-    let quiet = met (is_quiet_for D d to past) Quiet [] right.1 in
+    let order = met (may_take_arcs past) Order ((is_right_arc D d to past, Path) ∷ (is_quiet_for_arc D d to past, Quiet) ∷ []) unbroken in
+    let right = met (is_right_arc D d to past) Path ((is_quiet_for_arc D d to past, Quiet) ∷ []) order.1 in
+    let quiet = met (is_quiet_for_arc D d to past) Quiet [] right.1 in
     (order.0, right.0, quiet_parts D d to past quiet.0)
 
 -- the state that a device is held for
@@ -175,7 +181,7 @@ pub arc_way : (D : Desc) (past : List Entry) (d : ℕ) (to : MigState) → is_ri
 arc_way D past d to right =
     by_bool (is_aborted past || is_resumed past)
     (λ b. (is_aborted past || is_resumed past) ≡ b
-    → (if b then goes_home D d to past else is_way_open D d to past && not (arc_count d past + 1 == (shape_at D d).fails)) ≡ true → ArcWay D past d to)
+    → (if b then is_arc_home D d to past else is_way_open D d to past && not (arc_count d past + 1 == (shape_at D d).fails)) ≡ true → ArcWay D past d to)
     (λ over e h.
     let parts = and_parts (not (same_state (state_of d past) Running)) (is_next_towards D d Running to past) h in
     homeward e (not-true (same_state (state_of d past) Running) parts.0) (same_is to (next_towards (state_of d past) Running (shape_at D d).flags) parts.1))
@@ -199,9 +205,9 @@ on_parts past on_ =
 pub resume_met : (D : Desc) (past : List Entry) → fault_of D past Resume ≡ None
     → (is_joint past ≡ true) × (is_aborted past ≡ false) × (is_resumed past ≡ false)
 resume_met D past unbroken =
-    let order = met (is_on past) Order ((is_joint past && is_last_begun past && is_pass_ended D past, Standing) ∷ []) unbroken in
-    let standing = met (is_joint past && is_last_begun past && is_pass_ended D past) Standing [] order.1 in
-    let two = (and_parts (is_joint past && is_last_begun past) (is_pass_ended D past) standing.0).0 in
+    let order = met (is_on past) Order ((is_joint past && is_last_begun past && is_no_pass_open D past, Standing) ∷ []) unbroken in
+    let standing = met (is_joint past && is_last_begun past && is_no_pass_open D past) Standing [] order.1 in
+    let two = (and_parts (is_joint past && is_last_begun past) (is_no_pass_open D past) standing.0).0 in
     let on_ = on_parts past order.0 in
     ((and_parts (is_joint past) (is_last_begun past) two).0, on_.0, on_.1)
 
@@ -213,21 +219,21 @@ no_move on_ true false true moves j a r = true≢false r
 no_move true true false false moves j a r = false≢true moves
 no_move false true false false moves j a r = false≢true moves
 
-pub pass_met : (D : Desc) (past : List Entry) (k : ℕ) → fault_of D past (Pass k) ≡ None → (is_pass_ended D past ≡ true) × (is_pass_wanted D k past ≡ true)
+pub pass_met : (D : Desc) (past : List Entry) (k : ℕ) → fault_of D past (Pass k) ≡ None → (is_no_pass_open D past ≡ true) × (is_pass_wanted D k past ≡ true)
 pass_met D past k unbroken =
     let order = met (is_on past) Order ((is_next_pass D k past, Pages) ∷ (is_pass_wanted D k past, Decide) ∷ []) unbroken in
     let next = met (is_next_pass D k past) Pages ((is_pass_wanted D k past, Decide) ∷ []) order.1 in
     let wanted = met (is_pass_wanted D k past) Decide [] next.1 in
     let reported = nat_le k 1 || all_below (device_count D) (λ d. has_reported d past) in
-    let two = (and_parts (k == pass_count past + 1 && is_pass_ended D past) reported next.0).0 in
-    ((and_parts (k == pass_count past + 1) (is_pass_ended D past) two).1, wanted.0)
+    let two = (and_parts (k == pass_count past + 1 && is_no_pass_open D past) reported next.0).0 in
+    ((and_parts (k == pass_count past + 1) (is_no_pass_open D past) two).1, wanted.0)
 
 -- a fail comes before the move is given up or taken over
 pub fail_met : (D : Desc) (past : List Entry) (d : ℕ) (to : MigState) → fault_of D past (Fail d to) ≡ None
-    → (may_move past ≡ true) × (is_aborted past ≡ false) × (is_resumed past ≡ false)
+    → (may_take_arcs past ≡ true) × (is_aborted past ≡ false) × (is_resumed past ≡ false)
 fail_met D past d to unbroken =
-    let order = met (may_move past) Order ((is_right_fail D d to past, Path) ∷ (is_quiet_for D d to past, Quiet) ∷ []) unbroken in
-    let right = met (is_right_fail D d to past) Path ((is_quiet_for D d to past, Quiet) ∷ []) order.1 in
+    let order = met (may_take_arcs past) Order ((is_right_fail D d to past, Path) ∷ (is_quiet_for_arc D d to past, Quiet) ∷ []) unbroken in
+    let right = met (is_right_fail D d to past) Path ((is_quiet_for_arc D d to past, Quiet) ∷ []) order.1 in
     let four = not (is_aborted past) && not (is_resumed past) && is_way_open D d to past && nat_lt 0 (shape_at D d).fails in
     let three = (and_parts four (arc_count d past + 1 == (shape_at D d).fails) right.0).0 in
     let two = (and_parts (not (is_aborted past) && not (is_resumed past) && is_way_open D d to past) (nat_lt 0 (shape_at D d).fails) three).0 in
@@ -235,7 +241,7 @@ fail_met D past d to unbroken =
     (order.0, not-true (is_aborted past) one.0, not-true (is_resumed past) one.1)
 
 -- arcs before the move is given up or taken over are made while it is on, so none has failed
-pub moving_unfailed : (past : List Entry) → may_move past ≡ true → is_aborted past ≡ false → is_resumed past ≡ false → is_failed past ≡ false
+pub moving_unfailed : (past : List Entry) → may_take_arcs past ≡ true → is_aborted past ≡ false → is_resumed past ≡ false → is_failed past ≡ false
 moving_unfailed past moves aborted resumed =
     one_of (is_on past && not (is_joint past)) (is_aborted past) (is_resumed past) moves
     (λ on_. not-true (is_failed past)
@@ -254,4 +260,4 @@ pub on_unfailed : (past : List Entry) → is_on past ≡ true → is_failed past
 on_unfailed past on_ = not-true (is_failed past) (and_parts (is_begun past && not (is_aborted past) && not (is_resumed past)) (not (is_failed past)) on_).1
 
 pub resume_on : (D : Desc) (past : List Entry) → fault_of D past Resume ≡ None → is_on past ≡ true
-resume_on D past unbroken = (met (is_on past) Order ((is_joint past && is_last_begun past && is_pass_ended D past, Standing) ∷ []) unbroken).0
+resume_on D past unbroken = (met (is_on past) Order ((is_joint past && is_last_begun past && is_no_pass_open D past, Standing) ∷ []) unbroken).0

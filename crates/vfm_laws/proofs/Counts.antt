@@ -8,11 +8,11 @@ use Rattle.vfm_types.specs.declared.entry.Entry.TheVariants.{Issue, Deliver, Com
 use Rattle.vfm_types.specs.State.{has_pre_copy}
 use Rattle.vfm_types.specs.declared.state.MigState.TheVariants.{PreCopy}
 use Rattle.vfm_types.specs.Paths.{same_state}
-use Rattle.vfm_types.specs.Least.{all_below}
+use Rattle.vfm_base.specs.Least.{all_below}
 use Rattle.vfm_types.specs.Arcs.{state_of}
 use Rattle.vfm_types.specs.Phases.{is_joint, is_last_begun, pass_count}
 use Rattle.vfm_types.specs.Marks.{set_size}
-use Rattle.vfm_types.specs.Blocks.{is_pass_ended}
+use Rattle.vfm_types.specs.Blocks.{is_no_pass_open}
 use Rattle.vfm_types.specs.Words.{is_decided}
 use Rattle.vfm_plain.specs.Rules.{fault_of}
 use Rattle.vfm_types.specs.Desc.{device_count, shape_at, no_shape}
@@ -131,17 +131,17 @@ issued_within D past d valid legal inside =
 FewPasses : Desc → List Entry → Type 0
 FewPasses D past = (is_last_begun past ≡ false → pass_count past ≤ D.rounds) × (pass_count past ≤ D.rounds + 1)
 
-undecided_more : (D : Desc) (past : List Entry) → is_pass_ended D past ≡ true → is_decided D past ≡ false → pass_count past + 1 ≤ D.rounds
+undecided_more : (D : Desc) (past : List Entry) → is_no_pass_open D past ≡ true → is_decided D past ≡ false → pass_count past + 1 ≤ D.rounds
 undecided_more D past ended undecided =
-    let parts = or_parts (D.rounds == 0) (nat_lt 0 (pass_count past) && is_pass_ended D past && (nat_le D.rounds (pass_count past) || nat_le (set_size D past) D.threshold)) undecided in
+    let parts = or_parts (D.rounds == 0) (nat_lt 0 (pass_count past) && is_no_pass_open D past && (nat_le D.rounds (pass_count past) || nat_le (set_size D past) D.threshold)) undecided in
     let some : D.rounds ≡ 0 → ⊥ = eqb-false D.rounds 0 parts.0 in
     by_bool (nat_lt 0 (pass_count past)) (λ b. nat_lt 0 (pass_count past) ≡ b → pass_count past + 1 ≤ D.rounds)
     (λ begun f.
     by_bool (nat_le D.rounds (pass_count past)) (λ c. nat_le D.rounds (pass_count past) ≡ c → pass_count past + 1 ≤ D.rounds)
     (λ enough g. absurd (both_ways
-    (nat_lt 0 (pass_count past) && is_pass_ended D past && (nat_le D.rounds (pass_count past) || nat_le (set_size D past) D.threshold)) parts.1
-    (and_from (nat_lt 0 (pass_count past) && is_pass_ended D past) (nat_le D.rounds (pass_count past) || nat_le (set_size D past) D.threshold)
-    (and_from (nat_lt 0 (pass_count past)) (is_pass_ended D past) f ended) (or_left (nat_le D.rounds (pass_count past)) (nat_le (set_size D past) D.threshold) g))))
+    (nat_lt 0 (pass_count past) && is_no_pass_open D past && (nat_le D.rounds (pass_count past) || nat_le (set_size D past) D.threshold)) parts.1
+    (and_from (nat_lt 0 (pass_count past) && is_no_pass_open D past) (nat_le D.rounds (pass_count past) || nat_le (set_size D past) D.threshold)
+    (and_from (nat_lt 0 (pass_count past)) (is_no_pass_open D past) f ended) (or_left (nat_le D.rounds (pass_count past)) (nat_le (set_size D past) D.threshold) g))))
     (λ more g. let above : pass_count past < D.rounds = leb-false D.rounds (pass_count past) g in omega arith) refl)
     (λ none f. let first : pass_count past ≤ 0 = ltb-false 0 (pass_count past) f in grind (arith, some, first)) refl
 

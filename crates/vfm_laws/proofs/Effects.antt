@@ -10,8 +10,8 @@ use Rattle.vfm_types.specs.declared.job.Region.TheVariants.{Page, Bar}
 use Rattle.vfm_types.specs.declared.job.Place.{Place}
 use Rattle.vfm_types.specs.declared.desc.Desc.{Desc}
 use Rattle.vfm_types.specs.Desc.{shape_at}
-use Rattle.vfm_types.specs.Job.{place_of, owner_of, is_bell}
-use Rattle.vfm_types.specs.Machine.{DeviceState, Machine, device_of, no_device, with_device, with_bytes, put_at, with_front, bytes_in, bytes_at, splice, rung, accepting, losing, ring, write_at, added, effect}
+use Rattle.vfm_types.specs.Job.{place_of, owner_or_zero, is_bell}
+use Rattle.vfm_types.specs.Machine.{DeviceState, Machine, device_of, no_device, with_device, with_bytes, put_at, with_front, bytes_in, bytes_at, splice, with_bell_rung, with_accepted_request, with_lost_request, ring, write_at, added, effect}
 use Rattle.vfm_laws.specs.Queues.{IsGrown}
 use Rattle.vfm_laws.proofs.Rising.{by_bool}
 
@@ -92,12 +92,12 @@ unfolding SameQueues SameQueue
 front_same m t bytes d = with_device_same m t (record (device_of m t) { buf = splice (device_of m t).buf 0 bytes }) (refl, refl, refl) d
 
 -- a bell that is rung for a job that the budget allows adds one request
-rung_grown : (D : Desc) (t : ℕ) (device : DeviceState) (number : ℕ) → IsGrown D t device (rung (shape_at D t) device number)
+rung_grown : (D : Desc) (t : ℕ) (device : DeviceState) (number : ℕ) → IsGrown D t device (with_bell_rung (shape_at D t) device number)
 unfolding SameQueue
 rung_grown D t device number =
     by_bool (nat_lt number (length (shape_at D t).jobs) && nat_lt device.accepted (shape_at D t).budget)
     (λ b. (nat_lt number (length (shape_at D t).jobs) && nat_lt device.accepted (shape_at D t).budget) ≡ b
-    → IsGrown D t device (if b then accepting device number else losing device))
+    → IsGrown D t device (if b then with_accepted_request device number else with_lost_request device))
     (λ yes_ e. record {
       jobs = number ∷ [];
       pending = refl;
@@ -107,15 +107,15 @@ rung_grown D t device number =
           let room : device.accepted < (shape_at D t).budget = ltb-true device.accepted (shape_at D t).budget (and_parts (nat_lt number (length (shape_at D t).jobs)) (nat_lt device.accepted (shape_at D t).budget) e).1 in
           omega arith;
     })
-    (λ no_ e. grown_same D t device (losing device) (refl, refl, refl)) refl
+    (λ no_ e. grown_same D t device (with_lost_request device) (refl, refl, refl)) refl
 
 write_grown : (D : Desc) (m : Machine) (place : Place) (bytes : List ℕ) (d : ℕ) → IsGrown D d (device_of m d) (device_of (write_at D m place bytes) d)
 unfolding SameQueues
 write_grown D m place bytes d =
     by_bool (is_bell place (length bytes))
-    (λ b. IsGrown D d (device_of m d) (device_of (if b then ring D m (owner_of place.region) (from_le_bytes w64 bytes) else put_at m place bytes) d))
-    (λ bell. with_device_grown D m (owner_of place.region) (rung (shape_at D (owner_of place.region)) (device_of m (owner_of place.region)) (from_le_bytes w64 bytes))
-    (rung_grown D (owner_of place.region) (device_of m (owner_of place.region)) (from_le_bytes w64 bytes)) d)
+    (λ b. IsGrown D d (device_of m d) (device_of (if b then ring D m (owner_or_zero place.region) (from_le_bytes w64 bytes) else put_at m place bytes) d))
+    (λ bell. with_device_grown D m (owner_or_zero place.region) (with_bell_rung (shape_at D (owner_or_zero place.region)) (device_of m (owner_or_zero place.region)) (from_le_bytes w64 bytes))
+    (rung_grown D (owner_or_zero place.region) (device_of m (owner_or_zero place.region)) (from_le_bytes w64 bytes)) d)
     (λ plain. grown_same D d (device_of m d) (device_of (put_at m place bytes) d) (put_same m place bytes d))
 
 -- each queue after the effect of a job
@@ -140,8 +140,8 @@ with_bytes_count m (Bar t) bytes = device_count_kept m t (record (device_of m t)
 write_count : (D : Desc) (m : Machine) (place : Place) (bytes : List ℕ) → length (write_at D m place bytes).devices ≡ length m.devices
 write_count D m place bytes =
     by_bool (is_bell place (length bytes))
-    (λ b. length (if b then ring D m (owner_of place.region) (from_le_bytes w64 bytes) else put_at m place bytes).devices ≡ length m.devices)
-    (λ bell. device_count_kept m (owner_of place.region) (rung (shape_at D (owner_of place.region)) (device_of m (owner_of place.region)) (from_le_bytes w64 bytes)))
+    (λ b. length (if b then ring D m (owner_or_zero place.region) (from_le_bytes w64 bytes) else put_at m place bytes).devices ≡ length m.devices)
+    (λ bell. device_count_kept m (owner_or_zero place.region) (with_bell_rung (shape_at D (owner_or_zero place.region)) (device_of m (owner_or_zero place.region)) (from_le_bytes w64 bytes)))
     (λ plain. with_bytes_count m place.region (splice (bytes_in m place.region) place.offset bytes))
 
 front_count : (m : Machine) (t : ℕ) (bytes : List ℕ) → length (with_front m t bytes).devices ≡ length m.devices

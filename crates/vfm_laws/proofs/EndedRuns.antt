@@ -6,7 +6,7 @@ use Rattle.vfm_types.specs.declared.desc.Desc.{Desc}
 use Rattle.vfm_types.specs.declared.entry.Entry.{Entry}
 use Rattle.vfm_types.specs.declared.state.MigState.TheVariants.{Running}
 use Rattle.vfm_types.specs.Desc.{device_count}
-use Rattle.vfm_types.specs.Least.{all_below}
+use Rattle.vfm_base.specs.Least.{all_below}
 use Rattle.vfm_types.specs.Outstanding.{outstanding_of}
 use Rattle.vfm_types.specs.Words.{is_idle, is_nothing, all_stand_in}
 use Rattle.vfm_types.specs.Valid.{IsValid}

@@ -13,7 +13,8 @@ use Rattle.vfm_types.specs.Phases.{is_aborted, is_resumed, is_failed}
 use Rattle.vfm_types.specs.Arcs.{state_of, hold_of, arc_count}
 use Rattle.vfm_types.specs.Outstanding.{outstanding_of}
 use Rattle.vfm_types.specs.Valid.{IsValid}
-use Rattle.vfm_plain.specs.Rules.{fault_of, may_move}
+use Rattle.vfm_plain.specs.Rules.{fault_of}
+use Rattle.vfm_plain.specs.ArcRules.{may_take_arcs}
 use Rattle.vfm_plain.specs.Legal.{IsLegal}
 use Rattle.vfm_laws.specs.Standing.{is_hold_step, StateKept, EachStands}
 use Rattle.vfm_laws.proofs.Rising.{by_bool}
@@ -97,7 +98,7 @@ record ArcsKept (state : MigState) (count : ℕ) (over failed : Bool) : Type 0 w
 ArcsOf : Desc → List Entry → Type 0
 ArcsOf D past = (d : ℕ) → d < device_count D → ArcsKept (state_of d past) (arc_count d past) (is_aborted past || is_resumed past) (is_failed past)
 
-way_arcs : (D : Desc) (past : List Entry) (e : ℕ) (to : MigState) → may_move past ≡ true
+way_arcs : (D : Desc) (past : List Entry) (e : ℕ) (to : MigState) → may_take_arcs past ≡ true
     → StateKept D e (state_of e past) (hold_of e past) (outstanding_of D e past)
     → ArcsKept (state_of e past) (arc_count e past) (is_aborted past || is_resumed past) (is_failed past) → ArcWay D past e to
     → ArcsKept to (arc_count e past + 1) (is_aborted past || is_resumed past) (is_failed past)

@@ -7,7 +7,8 @@ use Rattle.vfm_types.specs.Desc.{device_count, job_at}
 use Rattle.vfm_types.specs.Machine.{device_of}
 use Rattle.vfm_types.specs.Deliveries.{machine_of}
 use Rattle.vfm_types.specs.Outstanding.{outstanding_of, issue_if, Outstanding}
-use Rattle.vfm_plain.specs.Rules.{fault_of, may_go}
+use Rattle.vfm_plain.specs.Rules.{fault_of}
+use Rattle.vfm_plain.specs.IssueRules.{is_request_allowed}
 use Rattle.vfm_laws.specs.Queues.{QueueKept, KeepsQueues}
 use Rattle.vfm_laws.proofs.Rising.{by_bool}
 use Rattle.vfm_laws.proofs.Conditions.{HasTurn, issue_met}
@@ -51,7 +52,7 @@ allowed_state state (Some to) barred held allowed =
 pub issue_keeps_states : (D : Desc) (past : List Entry) (e n : ℕ) → fault_of D past (Issue e n) ≡ None → KeepsStates D past → KeepsStates D (Issue e n ∷ past)
 issue_keeps_states D past e n unbroken kept = (each, kept.1, kept.2)
   where
-    own : (d : ℕ) → d < device_count D → may_go D d n past ≡ true
+    own : (d : ℕ) → d < device_count D → is_request_allowed D d n past ≡ true
         → StateKept D d (state_of d past) (hold_of d past) (outstanding_of D d past ++ issued n (device_of (machine_of D past) d) ∷ [])
     own d inside going =
         let old = kept.0 d inside in
@@ -71,5 +72,5 @@ issue_keeps_states D past e n unbroken kept = (each, kept.1, kept.2)
     each d inside =
         by_bool (e == d)
         (λ b. (e == d) ≡ b → StateKept D d (state_of d past) (hold_of d past) (issue_if b (issued n (device_of (machine_of D past) d)) (outstanding_of D d past)))
-        (λ same f. own d inside (subst (λ (k : ℕ). may_go D k n past ≡ true) (eqb-true e d f) (issue_met D past e n unbroken).1))
+        (λ same f. own d inside (subst (λ (k : ℕ). is_request_allowed D k n past ≡ true) (eqb-true e d f) (issue_met D past e n unbroken).1))
         (λ other f. kept.0 d inside) refl

@@ -3,8 +3,8 @@ use Rattle.std.proofs.Common.{false, arith, ⊎_elim, ◌≡◌, ℕ, ◌<◌, �
 use Rattle.vfm_types.specs.declared.desc.Desc.{Desc}
 use Rattle.vfm_types.specs.declared.entry.Entry.{Entry}
 use Rattle.vfm_types.specs.Desc.{device_count, shape_at}
-use Rattle.vfm_types.specs.Requests.{job_number}
-use Rattle.vfm_types.specs.Outstanding.{outstanding_of, is_undelivered, is_outstanding, job_outstanding}
+use Rattle.vfm_types.specs.Requests.{job_or_zero}
+use Rattle.vfm_types.specs.Outstanding.{outstanding_of, is_undelivered, is_outstanding, outstanding_job_or_zero}
 use Rattle.vfm_types.specs.Words.{has_fence}
 use Rattle.vfm_types.specs.Valid.{IsValid}
 use Rattle.vfm_plain.specs.Legal.{IsLegal}
@@ -29,11 +29,11 @@ module _ (D : Desc) (past : List Entry) (d : ℕ) (valid : IsValid D) (legal : I
   fence_alone = ((keeps_queues D valid past legal).1 d inside).alone
 
   pub same_job : (n : ℕ) → is_undelivered n (outstanding_of D d past) ≡ true
-      → job_number n (device_after D d past).pending ≡ job_outstanding n (outstanding_of D d past)
+      → job_or_zero n (device_after D d past).pending ≡ outstanding_job_or_zero n (outstanding_of D d past)
   same_job n undelivered =
       let kept = (keeps_queues D valid past legal).1 d inside in
       let requests = outstanding_of D d past in
-      ap (job_number n) kept.pending ∙ job_front n (waiting requests) kept.rest (undelivered_listed n requests undelivered) ∙ undelivered_job n requests undelivered
+      ap (job_or_zero n) kept.pending ∙ job_front n (waiting requests) kept.rest (undelivered_listed n requests undelivered) ∙ undelivered_job n requests undelivered
 
   pub numbers_once : AllOnce (outstanding_of D d past)
   numbers_once = ((keeps_queues D valid past legal).1 d inside).once

@@ -6,10 +6,11 @@ use Rattle.std.proofs.lemmas.List.Folds.{list_any-append}
 use Rattle.vfm_types.specs.declared.desc.Desc.{Desc}
 use Rattle.vfm_types.specs.Desc.{shape_at}
 use Rattle.vfm_types.specs.Machine.{DeviceState, numbered}
-use Rattle.vfm_types.specs.Requests.{fences, job_number, without, taken}
+use Rattle.vfm_types.specs.Requests.{fences, job_or_zero, without, taken}
 use Rattle.vfm_types.specs.Outstanding.{Outstanding, deliver_if, complete_if, is_undelivered, is_arrived, is_outstanding, unissued}
 use Rattle.vfm_types.specs.Words.{has_fence, is_nothing}
-use Rattle.vfm_plain.specs.Rules.{is_the, first_number}
+use Rattle.vfm_plain.specs.Condition.{is_exactly}
+use Rattle.vfm_plain.specs.IssueRules.{first_number}
 use Rattle.vfm_laws.specs.Queues.{waiting, is_listed, IsRising, IsGone, IsGrown, QueueKept}
 use Rattle.vfm_laws.proofs.Rising.{rising_grown, rising_without, rising_listed, unlisted_self, unlisted_without, unlisted_grown, unlisted_front, listed_behind, listed_front, job_behind, without_front, length_without, length_numbered}
 use Rattle.vfm_laws.proofs.Waiting.{once_issued, once_delivered, once_completed, delivered_waiting, completed_waiting, issued_waiting, undelivered_listed, all_delivered_as, all_delivered_more, all_delivered_less, all_delivered_issued, not_outstanding, unissued_waiting, unissued_head, delivered_length, completed_length, delivered_test, completed_test}
@@ -17,28 +18,28 @@ use Rattle.vfm_laws.proofs.Conditions.{HasTurn}
 
 -- the request that device d puts on the bus
 abbrev pub issued : ℕ → DeviceState → Outstanding
-issued n device = record { number = n; job = job_number n device.pending; is_delivered = false }
+issued n device = record { number = n; job = job_or_zero n device.pending; is_delivered = false }
 
 -- What the turn of a request says of it: it is the first pending one behind those that wait.
 pub turn_head : (D : Desc) (d n : ℕ) (device : DeviceState) (requests : List Outstanding) → QueueKept D d device requests
     → HasTurn D d n device requests
-    → (rest : List (ℕ × ℕ)) × (device.pending ≡ waiting requests ++ (n, job_number n device.pending) ∷ rest) × (is_outstanding n requests ≡ false)
+    → (rest : List (ℕ × ℕ)) × (device.pending ≡ waiting requests ++ (n, job_or_zero n device.pending) ∷ rest) × (is_outstanding n requests ≡ false)
 turn_head D d n device requests kept turn = go kept.rest kept.pending
   where
     go : (rest : List (ℕ × ℕ)) → device.pending ≡ waiting requests ++ rest
-        → (rest : List (ℕ × ℕ)) × (device.pending ≡ waiting requests ++ (n, job_number n device.pending) ∷ rest) × (is_outstanding n requests ≡ false)
+        → (rest : List (ℕ × ℕ)) × (device.pending ≡ waiting requests ++ (n, job_or_zero n device.pending) ∷ rest) × (is_outstanding n requests ≡ false)
     go [] split =
         let none : unissued requests device.pending ≡ [] = ap (unissued requests) split ∙ unissued_waiting requests [] in
-        absurd (false≢true (sym (ap (λ (xs : List (ℕ × ℕ)). is_the n (first_number xs)) none) ∙ turn.first))
+        absurd (false≢true (sym (ap (λ (xs : List (ℕ × ℕ)). is_exactly n (first_number xs)) none) ∙ turn.first))
     go (p ∷ rest) split =
         let rising : IsRising 0 (waiting requests ++ p ∷ rest) device.accepted = subst (λ (xs : List (ℕ × ℕ)). IsRising 0 xs device.accepted) split kept.rising in
         let front : is_listed p.0 (waiting requests) ≡ false = unlisted_front 0 (waiting requests) p rest device.accepted rising in
         let listed : is_listed p.0 device.pending ≡ true = ap (is_listed p.0) split ∙ listed_behind (waiting requests) p rest in
         let out : is_outstanding p.0 requests ≡ false = not_outstanding (IsGone device) p.0 requests kept.gone (λ (gone : IsGone device p.0). false≢true (sym gone.1 ∙ listed)) front in
         let head : unissued requests device.pending ≡ p ∷ unissued requests rest = ap (unissued requests) split ∙ unissued_waiting requests (p ∷ rest) ∙ unissued_head requests p rest out in
-        let same : p.0 ≡ n = eqb-true p.0 n (sym (ap (λ (xs : List (ℕ × ℕ)). is_the n (first_number xs)) head) ∙ turn.first) in
-        let job : job_number p.0 device.pending ≡ p.1 = ap (job_number p.0) split ∙ job_behind (waiting requests) p rest front in
-        let whole : p ≡ (n, job_number n device.pending) = ap₂ (λ (a b : ℕ). (a, b)) same (sym job ∙ ap (λ (k : ℕ). job_number k device.pending) same) in
+        let same : p.0 ≡ n = eqb-true p.0 n (sym (ap (λ (xs : List (ℕ × ℕ)). is_exactly n (first_number xs)) head) ∙ turn.first) in
+        let job : job_or_zero p.0 device.pending ≡ p.1 = ap (job_or_zero p.0) split ∙ job_behind (waiting requests) p rest front in
+        let whole : p ≡ (n, job_or_zero n device.pending) = ap₂ (λ (a b : ℕ). (a, b)) same (sym job ∙ ap (λ (k : ℕ). job_or_zero k device.pending) same) in
         (rest, split ∙ ap (λ (q : ℕ × ℕ). waiting requests ++ q ∷ rest) whole, subst (λ (k : ℕ). is_outstanding k requests ≡ false) same out)
 
 pub queue_issued : (D : Desc) (d n : ℕ) (device : DeviceState) (requests : List Outstanding) → QueueKept D d device requests
@@ -51,7 +52,7 @@ queue_issued D d n device requests kept turn =
     record {
       rest = rest;
       pending = head.1
-          ∙ sym (append_assoc (waiting requests) ((n, job_number n device.pending) ∷ []) rest)
+          ∙ sym (append_assoc (waiting requests) ((n, job_or_zero n device.pending) ∷ []) rest)
           ∙ ap (λ (xs : List (ℕ × ℕ)). xs ++ rest) (sym (issued_waiting (issued n device) requests refl));
       rising = kept.rising;
       gone = all_delivered_issued (IsGone device) (issued n device) requests refl kept.gone;
@@ -60,9 +61,9 @@ queue_issued D d n device requests kept turn =
       budget = kept.budget;
       window = omega arith;
       alone = λ fenced.
-          let both : (has_fence D d requests || (fences D d (job_number n device.pending) || false)) ≡ true =
+          let both : (has_fence D d requests || (fences D d (job_or_zero n device.pending) || false)) ≡ true =
           sym (list_any-append (λ (r : Outstanding). fences D d r.job) requests (issued n device ∷ [])) ∙ fenced in
-          let last = no_fence_before (has_fence D d requests) (fences D d (job_number n device.pending)) (is_nothing requests) turn.unfenced both turn.fence in
+          let last = no_fence_before (has_fence D d requests) (fences D d (job_or_zero n device.pending)) (is_nothing requests) turn.unfenced both turn.fence in
           let none : length requests ≡ 0 = eqb-true (length requests) 0 last in
           omega arith;
     }

@@ -2,7 +2,7 @@
 use Rattle.std.proofs.Common.{◌≡◌, ℕ, suc, ◌+◌, ◌<◌, ◌≤◌, ◌==◌, Bool, true, false, ◌||◌, if◌then◌else◌, List, [], ◌∷◌, ◌++◌, length, refl, ap, ◌∙◌, subst, arith, eqb-true, eq-eqb, ne_eqb}
 use Rattle.std.proofs.lemmas.Bool.{cond-true, cond-false, or_from, or_parts, or_left, or_right, cond_both, false≢true}
 use Rattle.vfm_types.specs.Machine.{numbered}
-use Rattle.vfm_types.specs.Requests.{job_number, without}
+use Rattle.vfm_types.specs.Requests.{job_or_zero, without}
 use Rattle.vfm_laws.specs.Queues.{is_listed, IsRising}
 
 -- a fact of a Bool, by its two values
@@ -94,16 +94,16 @@ pub listed_behind : (front : List (ℕ × ℕ)) (r : ℕ × ℕ) (back : List (�
 listed_behind [] r back = or_left (r.0 == r.0) (is_listed r.0 back) (eq-eqb r.0 r.0 refl)
 listed_behind (q ∷ front) r back = or_right (q.0 == r.0) (is_listed r.0 (front ++ r ∷ back)) (listed_behind front r back)
 
-pub job_behind : (front : List (ℕ × ℕ)) (r : ℕ × ℕ) (back : List (ℕ × ℕ)) → is_listed r.0 front ≡ false → job_number r.0 (front ++ r ∷ back) ≡ r.1
-job_behind [] r back unlisted = cond-true (r.0 == r.0) r.1 (job_number r.0 back) (eq-eqb r.0 r.0 refl)
+pub job_behind : (front : List (ℕ × ℕ)) (r : ℕ × ℕ) (back : List (ℕ × ℕ)) → is_listed r.0 front ≡ false → job_or_zero r.0 (front ++ r ∷ back) ≡ r.1
+job_behind [] r back unlisted = cond-true (r.0 == r.0) r.1 (job_or_zero r.0 back) (eq-eqb r.0 r.0 refl)
 job_behind (q ∷ front) r back unlisted =
     let parts = or_parts (q.0 == r.0) (is_listed r.0 front) unlisted in
-    cond-false (q.0 == r.0) q.1 (job_number r.0 (front ++ r ∷ back)) parts.0 ∙ job_behind front r back parts.1
+    cond-false (q.0 == r.0) q.1 (job_or_zero r.0 (front ++ r ∷ back)) parts.0 ∙ job_behind front r back parts.1
 
-pub job_front : (n : ℕ) (front back : List (ℕ × ℕ)) → is_listed n front ≡ true → job_number n (front ++ back) ≡ job_number n front
+pub job_front : (n : ℕ) (front back : List (ℕ × ℕ)) → is_listed n front ≡ true → job_or_zero n (front ++ back) ≡ job_or_zero n front
 job_front n [] back listed = absurd (false≢true listed)
 job_front n (q ∷ front) back listed =
-    by_bool (q.0 == n) (λ b. (b || is_listed n front) ≡ true → (if b then q.1 else job_number n (front ++ back)) ≡ (if b then q.1 else job_number n front))
+    by_bool (q.0 == n) (λ b. (b || is_listed n front) ≡ true → (if b then q.1 else job_or_zero n (front ++ back)) ≡ (if b then q.1 else job_or_zero n front))
     (λ same h. refl) (λ other h. job_front n front back h) listed
 
 pub without_front : (n : ℕ) (front back : List (ℕ × ℕ)) → is_listed n front ≡ true → without n (front ++ back) ≡ without n front ++ back

@@ -11,7 +11,7 @@ use Rattle.vfm_types.specs.Outstanding.{outstanding_of}
 use Rattle.vfm_types.specs.Words.{has_barred, is_nothing}
 use Rattle.vfm_types.specs.Valid.{IsValid}
 use Rattle.vfm_plain.specs.Legal.{IsLegal}
-use Rattle.vfm_laws.specs.Standing.{is_tame}
+use Rattle.vfm_laws.specs.Standing.{is_quiet_state}
 use Rattle.vfm_laws.proofs.KeptStates.{keeps_states}
 
 module _ (D : Desc) (past : List Entry) (valid : IsValid D) (legal : IsLegal D past) where
@@ -28,7 +28,7 @@ module _ (D : Desc) (past : List Entry) (valid : IsValid D) (legal : IsLegal D p
       false_from_ne_true (is_stopped (state_of d past))
       (λ still. both_ways (is_nothing (outstanding_of D d past)) some (ap (is_nothing {X = _}) (stopped_nothing d inside still)))
 
-  pub stopped_tame : (d e : ℕ) → d < device_count D → e < device_count D → is_stopped (state_of d past) ≡ true → is_tame (state_of e past) ≡ true
+  pub stopped_tame : (d e : ℕ) → d < device_count D → e < device_count D → is_stopped (state_of d past) ≡ true → is_quiet_state (state_of e past) ≡ true
   stopped_tame d e inside_d inside_e still = (keeps_states D valid past legal).1 d e inside_d inside_e still
 
   pub joint_stands : is_joint past ≡ true → is_aborted past ≡ false → is_resumed past ≡ false → (d : ℕ) → d < device_count D → state_of d past ≡ StopCopy

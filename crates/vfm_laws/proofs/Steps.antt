@@ -6,8 +6,8 @@ use Rattle.vfm_types.specs.declared.state.MigState.TheVariants.{Error, Stop, Run
 use Rattle.vfm_types.specs.State.{state_number, state_of_number, has_p2p, has_pre_copy}
 use Rattle.vfm_types.specs.Paths.{same_state, next_towards}
 use Rattle.vfm_types.specs.Arcs.{is_running, is_p2p, is_stopped}
-use Rattle.vfm_plain.specs.Rules.{enters_p2p, stops, leaves_p2p}
-use Rattle.vfm_laws.specs.Standing.{is_hold_step, is_arc_step, is_tame}
+use Rattle.vfm_plain.specs.ArcRules.{is_entering_p2p, is_stopping, is_leaving_p2p}
+use Rattle.vfm_laws.specs.Standing.{is_hold_step, is_arc_step, is_quiet_state}
 use Rattle.vfm_laws.proofs.Rising.{by_bool}
 
 number_back : (state : MigState) → state_of_number (state_number state) ≡ Some state
@@ -99,7 +99,7 @@ p2p_awake RunningP2p p2p = refl
 p2p_awake PreCopyP2p p2p = refl
 p2p_awake _ p2p = absurd (false≢true p2p)
 
-pub running_wild : (state : MigState) → is_running state ≡ true → is_tame state ≡ false
+pub running_wild : (state : MigState) → is_running state ≡ true → is_quiet_state state ≡ false
 running_wild Running running = refl
 running_wild PreCopy running = refl
 running_wild _ running = absurd (false≢true running)
@@ -125,7 +125,7 @@ arc_known _ _ step = absurd (false≢true step)
 
 -- why an arc leads to a stopped state: it stops the device, or finds it stopped
 pub data StopCause (from to : MigState) : Type 0 where
-  halts : stops from to ≡ true → StopCause from to
+  halts : is_stopping from to ≡ true → StopCause from to
   was_stopped : is_stopped from ≡ true → StopCause from to
 
 pub stop_cause : (from to : MigState) → is_arc_step from to ≡ true → is_stopped to ≡ true → StopCause from to
@@ -150,8 +150,8 @@ stop_cause _ _ step still = absurd (false≢true step)
 -- why an arc leads to a state that isn't running: it comes from one, or enters a peer-to-peer state, or stops the device
 pub data SlowCause (from to : MigState) : Type 0 where
   was_slow : is_running from ≡ false → SlowCause from to
-  enters : enters_p2p from to ≡ true → SlowCause from to
-  slow_halts : stops from to ≡ true → SlowCause from to
+  enters : is_entering_p2p from to ≡ true → SlowCause from to
+  slow_halts : is_stopping from to ≡ true → SlowCause from to
 
 pub slow_cause : (from to : MigState) → is_arc_step from to ≡ true → is_running to ≡ false → SlowCause from to
 slow_cause Running RunningP2p step slow = enters refl
@@ -174,11 +174,11 @@ slow_cause _ _ step slow = absurd (false≢true step)
 
 -- where an arc from a tame state leads: to a tame one, or out of the peer-to-peer states, or from STOP past them
 pub data TameCause (from to : MigState) : Type 0 where
-  stays : is_tame to ≡ true → TameCause from to
-  leaves : leaves_p2p from to ≡ true → TameCause from to
+  stays : is_quiet_state to ≡ true → TameCause from to
+  leaves : is_leaving_p2p from to ≡ true → TameCause from to
   leaps : from ≡ Stop → to ≡ Running → TameCause from to
 
-pub tame_cause : (from to : MigState) → is_arc_step from to ≡ true → is_tame from ≡ true → TameCause from to
+pub tame_cause : (from to : MigState) → is_arc_step from to ≡ true → is_quiet_state from ≡ true → TameCause from to
 tame_cause RunningP2p Running step tame = leaves refl
 tame_cause PreCopyP2p Running step tame = leaves refl
 tame_cause Stop Running step tame = leaps refl refl

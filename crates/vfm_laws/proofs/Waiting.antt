@@ -4,8 +4,8 @@ use Rattle.std.proofs.lemmas.Bool.{or_from, or_parts, cond-true, cond-false, or_
 use Rattle.std.proofs.lemmas.List.Folds.{list_any-append}
 use Rattle.std.proofs.lemmas.Bool.{eqb-false, ne_eqb}
 use Rattle.std.specs.List.{list_any}
-use Rattle.vfm_types.specs.Requests.{job_number, without}
-use Rattle.vfm_types.specs.Outstanding.{Outstanding, deliver_if, complete_if, is_undelivered, is_arrived, is_outstanding, job_outstanding, unissued}
+use Rattle.vfm_types.specs.Requests.{job_or_zero, without}
+use Rattle.vfm_types.specs.Outstanding.{Outstanding, deliver_if, complete_if, is_undelivered, is_arrived, is_outstanding, outstanding_job_or_zero, unissued}
 use Rattle.vfm_laws.specs.Queues.{waiting, is_listed, AllDelivered, AllOnce}
 use Rattle.vfm_laws.proofs.Rising.{by_bool}
 
@@ -75,18 +75,18 @@ issued_waiting r (q ∷ requests) still =
 
 -- the job of an undelivered request is the same on the bus as in the list of those that wait
 pub undelivered_job : (n : ℕ) (requests : List Outstanding) → is_undelivered n requests ≡ true
-    → job_number n (waiting requests) ≡ job_outstanding n requests
+    → job_or_zero n (waiting requests) ≡ outstanding_job_or_zero n requests
 undelivered_job n [] undelivered = refl
 undelivered_job n (r ∷ requests) undelivered =
     by_bool r.is_delivered
     (λ b. (if r.number == n then not b else is_undelivered n requests) ≡ true
-    → job_number n (if b then waiting requests else (r.number, r.job) ∷ waiting requests) ≡ (if r.number == n then r.job else job_outstanding n requests))
+    → job_or_zero n (if b then waiting requests else (r.number, r.job) ∷ waiting requests) ≡ (if r.number == n then r.job else outstanding_job_or_zero n requests))
     (λ done. by_bool (r.number == n)
-    (λ c. (if c then false else is_undelivered n requests) ≡ true → job_number n (waiting requests) ≡ (if c then r.job else job_outstanding n requests))
+    (λ c. (if c then false else is_undelivered n requests) ≡ true → job_or_zero n (waiting requests) ≡ (if c then r.job else outstanding_job_or_zero n requests))
     (λ same h. absurd (false≢true h)) (λ other h. undelivered_job n requests h))
     (λ still. by_bool (r.number == n)
     (λ c. (if c then true else is_undelivered n requests) ≡ true
-    → (if c then r.job else job_number n (waiting requests)) ≡ (if c then r.job else job_outstanding n requests))
+    → (if c then r.job else job_or_zero n (waiting requests)) ≡ (if c then r.job else outstanding_job_or_zero n requests))
     (λ same h. refl) (λ other h. undelivered_job n requests h))
     undelivered
 

@@ -13,7 +13,7 @@ disk =
     record {
       name = 97 ∷ [];
       flags = 1;
-      bar = 64;
+      bars = 64 ∷ [];
       window = 1;
       tells = true;
       budget = 1;
@@ -43,7 +43,7 @@ first_peer =
     record {
       name = 97 ∷ [];
       flags = 3;
-      bar = 64;
+      bars = 64 ∷ [];
       window = 1;
       tells = true;
       budget = 1;
@@ -58,7 +58,7 @@ second_peer =
     record {
       name = 98 ∷ [];
       flags = 3;
-      bar = 64;
+      bars = 64 ∷ [];
       window = 1;
       tells = true;
       budget = 1;

@@ -42,8 +42,8 @@ is_arc_step Resuming Stop = true
 is_arc_step _ _ = false
 
 -- the device starts no peer-to-peer DMA: it is in a peer-to-peer state or stopped
-abbrev pub is_tame : MigState → Bool
-is_tame state = is_p2p state || is_stopped state
+abbrev pub is_quiet_state : MigState → Bool
+is_quiet_state state = is_p2p state || is_stopped state
 
 -- What every legal list keeps of one device: it is never in ERROR, it is held only on its way to STOP_COPY, it has nothing
 -- outstanding where it is stopped, and nothing that is barred where it isn't in a running state.
@@ -60,7 +60,7 @@ EachStands D past = (d : ℕ) → d < device_count D → StateKept D d (state_of
 -- where one device is stopped, each is in a peer-to-peer state or stopped
 abbrev pub TameTogether : Desc → List Entry → Type 0
 TameTogether D past =
-    (d e : ℕ) → d < device_count D → e < device_count D → is_stopped (state_of d past) ≡ true → is_tame (state_of e past) ≡ true
+    (d e : ℕ) → d < device_count D → e < device_count D → is_stopped (state_of d past) ≡ true → is_quiet_state (state_of e past) ≡ true
 
 -- from Joint on, until the source gives up or the destination takes over, every device stands in STOP_COPY
 abbrev pub JointStands : Desc → List Entry → Type 0

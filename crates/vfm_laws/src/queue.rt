@@ -4,9 +4,9 @@ ghost use Rattle.std.specs.Prelude.{◌≡◌, ℕ, ◌+◌, ◌<◌, ◌≤◌,
 ghost use Rattle.vfm_types.specs.declared.desc.Desc.{Desc};
 ghost use Rattle.vfm_types.specs.declared.entry.Entry.{Entry};
 ghost use Rattle.vfm_types.specs.Desc.{device_count, shape_at};
-ghost use Rattle.vfm_types.specs.Requests.{job_number, is_enabled};
+ghost use Rattle.vfm_types.specs.Requests.{job_or_zero, is_enabled};
 ghost use Rattle.vfm_types.specs.Deliveries.{machine_of};
-ghost use Rattle.vfm_types.specs.Outstanding.{outstanding_of, is_outstanding, is_undelivered, job_outstanding};
+ghost use Rattle.vfm_types.specs.Outstanding.{outstanding_of, is_outstanding, is_undelivered, outstanding_job_or_zero};
 ghost use Rattle.vfm_types.specs.Words.{has_fence};
 ghost use Rattle.vfm_types.specs.Valid.{IsValid};
 ghost use Rattle.vfm_plain.specs.Legal.{IsLegal};
@@ -26,7 +26,7 @@ pub fn undelivered_are_first()
         → IsPrefixOf (waiting (outstanding_of D d past)) (device_after D d past).pending }
     ensures job { (D : Desc) (past : List Entry) (d : ℕ) → IsValid D → IsLegal D past → d < device_count D
         → (n : ℕ) → IsTrue (is_undelivered n (outstanding_of D d past))
-        → job_number n (device_after D d past).pending ≡ job_outstanding n (outstanding_of D d past) }
+        → job_or_zero n (device_after D d past).pending ≡ outstanding_job_or_zero n (outstanding_of D d past) }
 {}
 
 /// Each undelivered request is enabled in the plain machine: among the first `window` pending ones, behind no fence.

@@ -11,7 +11,7 @@ ghost use Rattle.vfm_types.specs.Outstanding.{outstanding_of};
 ghost use Rattle.vfm_types.specs.Words.{has_barred, is_nothing};
 ghost use Rattle.vfm_types.specs.Valid.{IsValid};
 ghost use Rattle.vfm_plain.specs.Legal.{IsLegal};
-ghost use Rattle.vfm_laws.specs.Standing.{is_tame, KeepsStates};
+ghost use Rattle.vfm_laws.specs.Standing.{is_quiet_state, KeepsStates};
 
 /// An outstanding request that is barred for its issuer has its issuer in a running state.
 pub fn barred_is_running()
@@ -30,7 +30,7 @@ pub fn outstanding_is_awake()
 /// Where one device is stopped, each is in a peer-to-peer state or stopped.
 pub fn stopped_beside_tame()
     ensures { (D : Desc) (past : List Entry) → IsValid D → IsLegal D past → (d e : ℕ) → d < device_count D → e < device_count D
-        → IsTrue (is_stopped (state_of d past)) → IsTrue (is_tame (state_of e past)) }
+        → IsTrue (is_stopped (state_of d past)) → IsTrue (is_quiet_state (state_of e past)) }
 {}
 
 /// After Joint, until the source gives up or the destination takes over, every device is in STOP_COPY and nothing is

@@ -4,3 +4,4 @@ pub mod Links
 pub mod Script
 pub mod ScriptEnds
 pub mod Told
+pub mod Tells

@@ -13,11 +13,12 @@ use Rattle.vfm_types.specs.declared.job.Region.TheVariants.{Page, Bar}
 use Rattle.vfm_types.specs.declared.job.Place.{Place}
 use Rattle.vfm_types.specs.declared.desc.DevShape.{DevShape}
 use Rattle.vfm_types.specs.declared.desc.Desc.{Desc}
-use Rattle.vfm_types.specs.Desc.{no_shape, device_count, shape_at, job_at, all_budgets}
-use Rattle.vfm_types.specs.Job.{length_of, place_of, owner_of, is_bar, is_bell}
-use Rattle.vfm_types.specs.DescFault.{spoils_bell}
-use Rattle.vfm_types.specs.Machine.{DeviceState, Machine, no_device, device_of, with_device, numbered, described_device, described, bytes_in, with_bytes, splice, bytes_at, put_at, with_front, rung, ring, write_at, added, effect}
-use Rattle.vfm_types.specs.Requests.{fences, is_free, is_enabled, job_number, job_of, without, taken, do_request, plain_from, plain}
+use Rattle.vfm_types.specs.Desc.{no_shape, device_count, shape_at, job_at, all_budgets, bar_bytes}
+use Rattle.vfm_types.proofs.BarSizes.{all_bars}
+use Rattle.vfm_types.specs.Job.{length_of, place_of, owner_or_zero, is_bar, is_bell}
+use Rattle.vfm_types.specs.DescFault.{is_bell_misused}
+use Rattle.vfm_types.specs.Machine.{DeviceState, Machine, no_device, device_of, with_device, numbered, described_device, described, bytes_in, with_bytes, splice, bytes_at, put_at, with_front, with_bell_rung, ring, write_at, added, effect}
+use Rattle.vfm_types.specs.Requests.{fences, is_free, is_enabled, job_or_zero, job_of, without, taken, do_request, plain_from, plain}
 use Rattle.vfm_types.specs.Serial.{least_of, next_serial, after_found, serial_from, serial}
 use Rattle.vfm_types.specs.Valid.{IsValid}
 use Rattle.vfm_plain.specs.Shape.{DeviceHasShape, HasShape, DeviceHasCounts, HasCounts, HasZeroBells, CanLose, IsSound, all_done}
@@ -29,7 +30,7 @@ use Rattle.vfm_plain.proofs.Steps.{each_changed, rung_keeps, free_job, shape-tak
 pub record Survives (D : Desc) (P Q : ℕ → DeviceState → Type 0) : Type 1 where
   pub bar : (e : ℕ) (x : DeviceState) (bytes : List ℕ) → P e x → P e (record x { bar = bytes })
   pub buf : (e : ℕ) (x : DeviceState) (bytes : List ℕ) → P e x → P e (record x { buf = bytes })
-  pub rung : (e : ℕ) (x : DeviceState) (number : ℕ) → P e x → Q e (rung (shape_at D e) x number)
+  pub with_bell_rung : (e : ℕ) (x : DeviceState) (number : ℕ) → P e x → Q e (with_bell_rung (shape_at D e) x number)
   pub weaker : (e : ℕ) (x : DeviceState) → P e x → Q e x
 
 -- n devices have it
@@ -50,8 +51,8 @@ each-with_front D P Q n m d bytes survives each =
 
 each-write_at : (D : Desc) (P Q : ℕ → DeviceState → Type 0) (n : ℕ) (m : Machine) (place : Place) (bytes : List ℕ) → Survives D P Q → Each P n m → Each Q n (write_at D m place bytes)
 each-write_at D P Q n m place bytes survives each =
-    elim (is_bell place (length bytes)) as (λ b. Each Q n (if b then ring D m (owner_of place.region) (from_le_bytes w64 bytes) else put_at m place bytes)) [
-      | true ↦ each_changed P Q m (owner_of place.region) (rung (shape_at D (owner_of place.region)) (device_of m (owner_of place.region)) (from_le_bytes w64 bytes)) n survives.weaker (survives.rung (owner_of place.region) (device_of m (owner_of place.region)) (from_le_bytes w64 bytes)) each
+    elim (is_bell place (length bytes)) as (λ b. Each Q n (if b then ring D m (owner_or_zero place.region) (from_le_bytes w64 bytes) else put_at m place bytes)) [
+      | true ↦ each_changed P Q m (owner_or_zero place.region) (with_bell_rung (shape_at D (owner_or_zero place.region)) (device_of m (owner_or_zero place.region)) (from_le_bytes w64 bytes)) n survives.weaker (survives.with_bell_rung (owner_or_zero place.region) (device_of m (owner_or_zero place.region)) (from_le_bytes w64 bytes)) each
       | false ↦ each-weaker P Q n (put_at m place bytes) survives.weaker (each-with_bytes D P Q n m place.region (splice (bytes_in m place.region) place.offset bytes) survives each)
     ]
 
@@ -86,7 +87,7 @@ counts-survive D =
     record {
       bar = λ e x bytes h. record { accepted = h.accepted; within = h.within };
       buf = λ e x bytes h. record { accepted = h.accepted; within = h.within };
-      rung = λ e x number h. rung_keeps (DeviceHasCounts (shape_at D e)) (shape_at D e) x number (λ there spare. record { accepted = omega (arith, h.accepted, length_push x.pending (x.accepted, number)); within = omega arith }) (record { accepted = h.accepted; within = h.within });
+      with_bell_rung = λ e x number h. rung_keeps (DeviceHasCounts (shape_at D e)) (shape_at D e) x number (λ there spare. record { accepted = omega (arith, h.accepted, length_push x.pending (x.accepted, number)); within = omega arith }) (record { accepted = h.accepted; within = h.within });
       weaker = λ e x h. h;
     }
 
@@ -103,7 +104,7 @@ done_survives D m =
     record {
       bar = λ e x bytes h. h;
       buf = λ e x bytes h. h;
-      rung = λ e x number h. rung_keeps (λ y. y.done ≡ (device_of m e).done) (shape_at D e) x number (λ there spare. h) h;
+      with_bell_rung = λ e x number h. rung_keeps (λ y. y.done ≡ (device_of m e).done) (shape_at D e) x number (λ there spare. h) h;
       weaker = λ e x h. h;
     }
 
@@ -112,7 +113,7 @@ lost_survives D k =
     record {
       bar = λ e x bytes h. h;
       buf = λ e x bytes h. h;
-      rung = λ e x number h. rung_keeps (λ y. y.lost ≤ k + 1) (shape_at D e) x number (λ there spare. omega arith) (omega arith);
+      with_bell_rung = λ e x number h. rung_keeps (λ y. y.lost ≤ k + 1) (shape_at D e) x number (λ there spare. omega arith) (omega arith);
       weaker = λ e x h. omega arith;
     }
 
@@ -173,7 +174,7 @@ bells-put_at D m place bytes far bells = at place.region far
 
 bells-ring : (D : Desc) (m : Machine) (d number : ℕ) → HasZeroBells D m → HasZeroBells D (ring D m d number)
 bells-ring D m d number bells =
-    each_changed (λ e x. take 8 x.bar ≡ replicate 8 0) (λ e x. take 8 x.bar ≡ replicate 8 0) m d (rung (shape_at D d) (device_of m d) number) (device_count D) (λ e x h. h) (λ h. rung_keeps (λ x. take 8 x.bar ≡ replicate 8 0) (shape_at D d) (device_of m d) number (λ there spare. h) h) bells
+    each_changed (λ e x. take 8 x.bar ≡ replicate 8 0) (λ e x. take 8 x.bar ≡ replicate 8 0) m d (with_bell_rung (shape_at D d) (device_of m d) number) (device_count D) (λ e x h. h) (λ h. rung_keeps (λ x. take 8 x.bar ≡ replicate 8 0) (shape_at D d) (device_of m d) number (λ there spare. h) h) bells
 
 -- a write that spoils no doorbell rings it, or lies in memory, or behind it
 not_spoiled : (bar low bell : Bool) → (bar && low && not bell) ≡ false → bell ≡ false → bar ≡ true → low ≡ false
@@ -185,8 +186,8 @@ not_spoiled false low bell e f g = absurd (cc)
 bells-write_at : (D : Desc) (m : Machine) (place : Place) (bytes : List ℕ) → (is_bar place.region && nat_lt place.offset 8 && not (is_bell place (length bytes))) ≡ false → HasZeroBells D m → HasZeroBells D (write_at D m place bytes)
 bells-write_at D m place bytes kind bells = at (is_bell place (length bytes)) refl
   where
-    at : (b : Bool) → is_bell place (length bytes) ≡ b → HasZeroBells D (if b then ring D m (owner_of place.region) (from_le_bytes w64 bytes) else put_at m place bytes)
-    at true e = bells-ring D m (owner_of place.region) (from_le_bytes w64 bytes) bells
+    at : (b : Bool) → is_bell place (length bytes) ≡ b → HasZeroBells D (if b then ring D m (owner_or_zero place.region) (from_le_bytes w64 bytes) else put_at m place bytes)
+    at true e = bells-ring D m (owner_or_zero place.region) (from_le_bytes w64 bytes) bells
     at false e =
         bells-put_at D m place bytes (λ bar. ltb-false place.offset 8 (not_spoiled (is_bar place.region) (nat_lt place.offset 8) (is_bell place (length bytes)) kind e bar)) bells
 
@@ -194,7 +195,7 @@ bells-with_front : (D : Desc) (m : Machine) (d : ℕ) (bytes : List ℕ) → Has
 bells-with_front D m d bytes bells =
     each_changed (λ e x. take 8 x.bar ≡ replicate 8 0) (λ e x. take 8 x.bar ≡ replicate 8 0) m d (record (device_of m d) { buf = splice (device_of m d).buf 0 bytes }) (device_count D) (λ e x h. h) (λ h. h) bells
 
-bells-effect : (D : Desc) (m : Machine) (d : ℕ) (job : Job) → spoils_bell D job ≡ false → DeviceHasShape (shape_at D d) (device_of m d) → length_of job ≤ 64 → HasZeroBells D m → HasZeroBells D (effect D m d job)
+bells-effect : (D : Desc) (m : Machine) (d : ℕ) (job : Job) → is_bell_misused D job ≡ false → DeviceHasShape (shape_at D d) (device_of m d) → length_of job ≤ 64 → HasZeroBells D m → HasZeroBells D (effect D m d job)
 bells-effect D m d (Write at bytes) kind shape few bells = bells-write_at D m (place_of D (Write at bytes)) bytes kind bells
 bells-effect D m d (Read at len) kind shape few bells = bells-with_front D m d (bytes_at m (place_of D (Read at len)) len) bells
 bells-effect D m d (Store at len) kind shape few bells =
@@ -222,7 +223,7 @@ pub sound-do_request : (D : Desc) (m : Machine) (d n : ℕ) → IsValid D → Is
 sound-do_request D m d n valid free sound =
     let within = enabled_device D m d n free in
     let there = free_job (fences D d) true (shape_at D d).window (device_of m d).pending n (length (shape_at D d).jobs) (sound.shape.device d within).jobs free in
-    let number = job_number n (device_of m d).pending in
+    let number = job_or_zero n (device_of m d).pending in
     let job = sound_job D d number valid within there in
     let few = some_bytes (job_of D m d n) (job_in_range D d number valid within there) in
     let took = shape-taken D m d n sound.shape in
@@ -262,17 +263,16 @@ described_sound D valid =
       };
       counts = λ d h. subst (DeviceHasCounts (shape_at D d)) (sym (described-device D d h)) (record { accepted = omega (arith, length-numbered 0 (shape_at D d).queue); within = (valid.in_range.devices d h).queue_length });
       losses = λ d h. subst (λ (x : DeviceState). x.lost ≤ all_done (described D)) (sym (described-device D d h)) (omega arith);
-      bells = λ d h. subst (λ (x : DeviceState). take 8 x.bar ≡ replicate 8 0) (sym (described-device D d h)) (take-replicate 8 (shape_at D d).bar 0 (long d h));
+      bells = λ d h. subst (λ (x : DeviceState). take 8 x.bar ≡ replicate 8 0) (sym (described-device D d h)) (take-replicate 8 (bar_bytes (shape_at D d)) 0 (long d h));
     }
   where
-    long : (d : ℕ) → d < device_count D → 8 ≤ (shape_at D d).bar
+    long : (d : ℕ) → d < device_count D → 8 ≤ bar_bytes (shape_at D d)
     long d h =
-        let sizes = both _ _ (both _ _ (valid.in_range.devices d h).bar).0 in
-        let low : 64 ≤ (shape_at D d).bar = leb-true _ _ sizes.0 in
+        let low : 64 ≤ bar_bytes (shape_at D d) = (all_bars (shape_at D d) (valid.in_range.devices d h).bars).low in
         omega arith
 
     shape : (d : ℕ) → d < device_count D → DeviceHasShape (shape_at D d) (described_device (shape_at D d))
-    shape d h = record { bar = length-replicate (shape_at D d).bar 0; buf = refl; jobs = All-numbered (length (shape_at D d).jobs) 0 (shape_at D d).queue (valid.in_range.devices d h).queue }
+    shape d h = record { bar = length-replicate (bar_bytes (shape_at D d)) 0; buf = refl; jobs = All-numbered (length (shape_at D d).jobs) 0 (shape_at D d).queue (valid.in_range.devices d h).queue }
 
 -- what comes of the described machine is sound
 sound_from : (D : Desc) (m : Machine) (requests : List (ℕ × ℕ)) (after : Machine) → IsValid D → IsSound D m → plain_from D m requests ≡ Some after → IsSound D after
@@ -293,22 +293,22 @@ bytes-ring : (D : Desc) (m : Machine) (d number : ℕ) (region : Region) → byt
 bytes-ring D m d number (Page p) = refl
 bytes-ring D m d number (Bar e) =
     let P : ℕ → DeviceState → Type 0 = λ k x. x.bar ≡ (device_of m k).bar in
-    each_changed P P m d (rung (shape_at D d) (device_of m d) number) (e + 1) (λ k x h. h) (λ h. rung_keeps (P d) (shape_at D d) (device_of m d) number (λ there spare. refl) refl) (λ k h. refl) e (omega arith)
+    each_changed P P m d (with_bell_rung (shape_at D d) (device_of m d) number) (e + 1) (λ k x h. h) (λ h. rung_keeps (P d) (shape_at D d) (device_of m d) number (λ there spare. refl) refl) (λ k h. refl) e (omega arith)
 
 buf-ring : (D : Desc) (m : Machine) (d number e : ℕ) → (device_of (ring D m d number) e).buf ≡ (device_of m e).buf
 buf-ring D m d number e =
     let P : ℕ → DeviceState → Type 0 = λ k x. x.buf ≡ (device_of m k).buf in
-    each_changed P P m d (rung (shape_at D d) (device_of m d) number) (e + 1) (λ k x h. h) (λ h. rung_keeps (P d) (shape_at D d) (device_of m d) number (λ there spare. refl) refl) (λ k h. refl) e (omega arith)
+    each_changed P P m d (with_bell_rung (shape_at D d) (device_of m d) number) (e + 1) (λ k x h. h) (λ h. rung_keeps (P d) (shape_at D d) (device_of m d) number (λ there spare. refl) refl) (λ k h. refl) e (omega arith)
 
 pub bell-bytes : (D : Desc) (m : Machine) (place : Place) (bytes : List ℕ) (region : Region) → IsTrue (is_bell place (length bytes)) → bytes_in (write_at D m place bytes) region ≡ bytes_in m region
 bell-bytes D m place bytes region bell =
-    ap (λ (b : Bool). bytes_in (if b then ring D m (owner_of place.region) (from_le_bytes w64 bytes) else put_at m place bytes) region) bell
-    ∙ bytes-ring D m (owner_of place.region) (from_le_bytes w64 bytes) region
+    ap (λ (b : Bool). bytes_in (if b then ring D m (owner_or_zero place.region) (from_le_bytes w64 bytes) else put_at m place bytes) region) bell
+    ∙ bytes-ring D m (owner_or_zero place.region) (from_le_bytes w64 bytes) region
 
 pub bell-buf : (D : Desc) (m : Machine) (place : Place) (bytes : List ℕ) (e : ℕ) → IsTrue (is_bell place (length bytes)) → (device_of (write_at D m place bytes) e).buf ≡ (device_of m e).buf
 bell-buf D m place bytes e bell =
-    ap (λ (b : Bool). (device_of (if b then ring D m (owner_of place.region) (from_le_bytes w64 bytes) else put_at m place bytes) e).buf) bell
-    ∙ buf-ring D m (owner_of place.region) (from_le_bytes w64 bytes) e
+    ap (λ (b : Bool). (device_of (if b then ring D m (owner_or_zero place.region) (from_le_bytes w64 bytes) else put_at m place bytes) e).buf) bell
+    ∙ buf-ring D m (owner_or_zero place.region) (from_le_bytes w64 bytes) e
 
 -- none of no requests is the least
 none_least : (test : ℕ → Bool) (window : ℕ) (pending : List (ℕ × ℕ)) → pending ≡ [] → least_of (filter test (map (λ request. request.0) (take window pending))) ≡ None
@@ -344,7 +344,7 @@ sound_made D pages devices valid same_pages same_devices =
     let e : described D ≡ record { pages = pages; devices = devices } = cc in
     subst (IsSound D) e (described_sound D valid)
 
-pub sound_applied : (D : Desc) (m took after : Machine) (d n k number : ℕ) (job : Job) → IsValid D → true ≡ is_enabled D m d n → remove (device_of m d).pending k ≡ without n (device_of m d).pending → took ≡ with_device m d (record (device_of m d) { pending = remove (device_of m d).pending k; done = (device_of m d).done + 1 }) → number ≡ (slice_index_or (device_of m d).pending k (0, 0)).1 → (slice_index_or (device_of m d).pending k (0, 0)).1 ≡ job_number n (device_of m d).pending → job ≡ job_at D d number → after ≡ effect D took d job → IsSound D m → IsSound D after
+pub sound_applied : (D : Desc) (m took after : Machine) (d n k number : ℕ) (job : Job) → IsValid D → true ≡ is_enabled D m d n → remove (device_of m d).pending k ≡ without n (device_of m d).pending → took ≡ with_device m d (record (device_of m d) { pending = remove (device_of m d).pending k; done = (device_of m d).done + 1 }) → number ≡ (slice_index_or (device_of m d).pending k (0, 0)).1 → (slice_index_or (device_of m d).pending k (0, 0)).1 ≡ job_or_zero n (device_of m d).pending → job ≡ job_at D d number → after ≡ effect D took d job → IsSound D m → IsSound D after
 sound_applied D m took after d n k number job valid free rest is_took is_number is_job job_is is_after sound =
     let start : took ≡ with_device m d (taken (device_of m d) n) = is_took ∙ ap (λ (p : List (ℕ × ℕ)). with_device m d (record (device_of m d) { pending = p; done = (device_of m d).done + 1 })) rest in
     let its : job ≡ job_of D m d n = job_is ∙ ap (job_at D d) (is_number ∙ is_job) in

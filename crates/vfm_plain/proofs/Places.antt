@@ -2,13 +2,13 @@
 use Rattle.std.proofs.Common.{◌≡◌, ℕ, zero, suc, ◌+◌, ◌-◌, ◌<◌, ◌==◌, ◌||◌, not, Bool, true, false, if◌then◌else◌, List, [], ◌++◌, length, take, drop, get_or, remove, refl, sym, ap, ◌∙◌, eq-eqb, add-one, append_assoc, arith}
 use Rattle.std.proofs.lemmas.List.{drop_more, take_more}
 use Rattle.std.proofs.lemmas.Bool.{ne_eqb}
-use Rattle.vfm_types.specs.Requests.{is_free, without, job_number}
+use Rattle.vfm_types.specs.Requests.{is_free, without, job_or_zero}
 
 -- the looks at the places below k leave the three answers to the places from k on
 pub record Looked (fence : ℕ → Bool) (window : ℕ) (requests : List (ℕ × ℕ)) (n k : ℕ) : Type 0 where
   pub free : is_free fence (k == 0) (window - k) (drop k requests) n ≡ is_free fence true window requests n
   pub rest : take k requests ++ without n (drop k requests) ≡ without n requests
-  pub job : job_number n (drop k requests) ≡ job_number n requests
+  pub job : job_or_zero n (drop k requests) ≡ job_or_zero n requests
 
 -- what is_free says at the first place
 abbrev pub free_at : (ℕ → Bool) → Bool → ℕ → (ℕ × ℕ) → List (ℕ × ℕ) → ℕ → Bool
@@ -44,7 +44,7 @@ found_rest fence window requests n k looked l e =
     rw (← looked.rest, there, add-one)
 
 -- it is found: its job
-pub found_job : (fence : ℕ → Bool) (window : ℕ) (requests : List (ℕ × ℕ)) (n k : ℕ) → Looked fence window requests n k → k < length requests → (get_or requests k (0, 0)).0 ≡ n → (get_or requests k (0, 0)).1 ≡ job_number n requests
+pub found_job : (fence : ℕ → Bool) (window : ℕ) (requests : List (ℕ × ℕ)) (n k : ℕ) → Looked fence window requests n k → k < length requests → (get_or requests k (0, 0)).0 ≡ n → (get_or requests k (0, 0)).1 ≡ job_or_zero n requests
 found_job fence window requests n k looked l e =
     rw (← looked.job, drop_more requests k (0, 0) l, eq-eqb (get_or requests k (0, 0)).0 n e)
 
@@ -61,6 +61,6 @@ looked_more fence window requests n k looked h l other is =
     rw (not_first, ← looked.free, free_more fence (k == 0) window requests n k h l, other, is) in
     let rest : take (k + 1) requests ++ without n (drop (k + 1) requests) ≡ without n requests =
     rw (← looked.rest, drop_more requests k (0, 0) l, other, take_more requests k (0, 0) l, append_assoc) in
-    let job : job_number n (drop (k + 1) requests) ≡ job_number n requests =
+    let job : job_or_zero n (drop (k + 1) requests) ≡ job_or_zero n requests =
     rw (← looked.job, drop_more requests k (0, 0) l, other) in
     record { free = free; rest = rest; job = job }

@@ -11,11 +11,14 @@ use Rattle.vfm_types.specs.declared.job.Place.{Place}
 use Rattle.vfm_types.specs.declared.desc.DevShape.{DevShape}
 use Rattle.vfm_types.specs.declared.desc.Desc.{Desc}
 use Rattle.vfm_types.specs.declared.fault.DescFault.{DescFault}
-use Rattle.vfm_types.specs.Desc.{device_count, shape_at, bar_bytes, job_at, no_shape, no_job}
-use Rattle.vfm_types.specs.Region.{region_of, is_in_page, is_in_bar, bar_base, bar_owner, bar_offset}
-use Rattle.vfm_types.specs.Job.{address_of, length_of, place_of, no_place, is_bar_of}
-use Rattle.vfm_types.specs.DescFault.{form_fault, job_fault, jobs_fault, devices_fault, spoils_bell, name_twice}
-use Rattle.vfm_types.specs.Valid.{IsValid, IsSoundJob, is_page_size, is_job_in_range}
+use Rattle.vfm_types.specs.declared.fault.FieldName.TheVariants.{At, Len}
+use Rattle.vfm_types.specs.Ranges.{is_page_size, takes}
+use Rattle.vfm_types.specs.Desc.{device_count, shape_at, bar_size, job_at, no_shape, no_job}
+use Rattle.vfm_types.specs.Region.{region_of, is_in_page, is_in_bar, bar_base, bar_owner, bar_number, bar_offset, offset_in_bars}
+use Rattle.vfm_types.specs.Job.{address_of, length_of, place_of, page_zero_if_nowhere, is_bar_of}
+use Rattle.vfm_types.specs.DescFault.{form_fault, job_fault, jobs_fault, devices_fault, is_bell_misused, name_twice}
+use Rattle.vfm_types.specs.Valid.{IsValid, IsSoundJob, is_job_in_range}
+use Rattle.vfm_types.proofs.BarSizes.{bar_within}
 use Rattle.vfm_types.proofs.FormFault.{list_all_one}
 use Rattle.vfm_plain.specs.Shape.{Lies}
 
@@ -51,7 +54,7 @@ each_device D k (shape ∷ shapes) none (suc d) h =
     ∙ each_device D (k + 1) shapes (then_none (jobs_fault D k 0 shape.jobs) (devices_fault D (k + 1) shapes) none) d (omega arith)
 
 -- three tests of a job, none of which found a fault
-no_cause : (o : Option Place) (b c : Bool) (x y z : DescFault) → cond (is_none o) (Some x) (cond b (Some y) (cond c (Some z) None)) ≡ None → (o ≡ Some (unwrap_or o no_place)) × (b ≡ false) × (c ≡ false)
+no_cause : (o : Option Place) (b c : Bool) (x y z : DescFault) → cond (is_none o) (Some x) (cond b (Some y) (cond c (Some z) None)) ≡ None → (o ≡ Some (unwrap_or o page_zero_if_nowhere)) × (b ≡ false) × (c ≡ false)
 no_cause None b c x y z e = absurd (cc)
 no_cause (Some place) true c x y z e = absurd (cc)
 no_cause (Some place) false true x y z e = absurd (cc)
@@ -60,7 +63,7 @@ no_cause (Some place) false false x y z e = (refl, refl, refl)
 -- a job without a fault is sound
 no_fault_sound : (D : Desc) (d j : ℕ) (job : Job) → job_fault D d j job ≡ None → IsSoundJob D d job
 no_fault_sound D d j job none =
-    let h = no_cause (region_of D (address_of job) (length_of job)) (is_bar_of d (place_of D job).region) (spoils_bell D job) _ _ _ none in
+    let h = no_cause (region_of D (address_of job) (length_of job)) (is_bar_of d (place_of D job).region) (is_bell_misused D job) _ _ _ none in
     record { placed = h.0; not_own = h.1; bell = h.2 }
 
 devices_none : (D : Desc) → form_fault D ≡ None → devices_fault D 0 D.devices ≡ None
@@ -99,7 +102,7 @@ found_at false false p q place e = absurd (cc)
 -- the bytes of a place lie in its region
 pub lies_of_region : (D : Desc) (at len : ℕ) (place : Place) → IsTrue (is_page_size D.page) → 1 ≤ len → region_of D at len ≡ Some place → Lies D place len
 lies_of_region D at len place size some e =
-    ⊎_elim page bar (found_at (is_in_page D at len) (is_in_bar D at len) (record { region = Page (at / D.page); offset = at % D.page }) (record { region = Bar (bar_owner at); offset = bar_offset at }) place e)
+    ⊎_elim page bar (found_at (is_in_page D at len) (is_in_bar D at len) (record { region = Page (at / D.page); offset = at % D.page }) (record { region = Bar (bar_owner at); offset = offset_in_bars D at }) place e)
   where
     page : (is_in_page D at len ≡ true) × (record { region = Page (at / D.page); offset = at % D.page } ≡ place) → Lies D place len
     page h =
@@ -108,26 +111,28 @@ lies_of_region D at len place size some e =
         let size' = mul_comm D.page D.pages in
         subst (λ (x : Place). Lies D x len) h.1 ((div-lt_iff_lt-mul (some_page D.page size)).1 (omega arith), leb-true _ _ tests.1)
 
-    bar : (is_in_bar D at len ≡ true) × (record { region = Bar (bar_owner at); offset = bar_offset at } ≡ place) → Lies D place len
+    bar : (is_in_bar D at len ≡ true) × (record { region = Bar (bar_owner at); offset = offset_in_bars D at } ≡ place) → Lies D place len
     bar h =
-        let tests = both (nat_le bar_base at && nat_lt (bar_owner at) (device_count D)) (nat_le (bar_offset at + len) (bar_bytes (shape_at D (bar_owner at)))) h.0 in
+        let shape = shape_at D (bar_owner at) in
+        let tests = both (nat_le bar_base at && nat_lt (bar_owner at) (device_count D)) (nat_le (bar_offset at + len) (bar_size shape (bar_number at))) h.0 in
         let owner = both (nat_le bar_base at) (nat_lt (bar_owner at) (device_count D)) tests.0 in
-        subst (λ (x : Place). Lies D x len) h.1 (ltb-true _ _ owner.1, leb-true _ _ tests.1)
+        let end : bar_offset at + len ≤ bar_size shape (bar_number at) = leb-true _ _ tests.1 in
+        subst (λ (x : Place). Lies D x len) h.1 (ltb-true _ _ owner.1, omega (arith, end, bar_within shape (bar_number at)))
 
 -- what a sound job touches lies in one region
 pub lies_of_job : (D : Desc) (d : ℕ) (job : Job) → IsValid D → IsSoundJob D d job → 1 ≤ length_of job → Lies D (place_of D job) (length_of job)
 lies_of_job D d job valid sound some =
     lies_of_region D (address_of job) (length_of job) (place_of D job) valid.in_range.page some sound.placed
 
+-- a length in its range
+length_in_range : (len : ℕ) → IsTrue (takes Len len) → (1 ≤ len) × (len ≤ 64)
+length_in_range len is =
+    let range = both (nat_le 1 len) (nat_le len 64) (both (nat_le 1 len && nat_le len 64) true is).0 in
+    (leb-true _ _ range.0, leb-true _ _ range.1)
+
 -- a job in its ranges touches 1 to 64 bytes
 pub some_bytes : (job : Job) → IsTrue (is_job_in_range job) → (1 ≤ length_of job) × (length_of job ≤ 64)
-some_bytes (Write at bytes) h =
-    let t = both (nat_lt at (2 ^ 64) && nat_le 1 (length bytes)) (nat_le (length bytes) 64) h in
-    (leb-true _ _ (both _ _ t.0).1, leb-true _ _ t.1)
-some_bytes (Read at len) h =
-    let t = both (nat_lt at (2 ^ 64) && nat_le 1 len) (nat_le len 64) h in
-    (leb-true _ _ (both _ _ t.0).1, leb-true _ _ t.1)
-some_bytes (Store at len) h =
-    let t = both (nat_lt at (2 ^ 64) && nat_le 1 len) (nat_le len 64) h in
-    (leb-true _ _ (both _ _ t.0).1, leb-true _ _ t.1)
+some_bytes (Write at bytes) h = length_in_range (length bytes) (both (takes At at) (takes Len (length bytes)) h).1
+some_bytes (Read at len) h = length_in_range len (both (takes At at) (takes Len len) h).1
+some_bytes (Store at len) h = length_in_range len (both (takes At at) (takes Len len) h).1
 some_bytes (Add at value) h = (omega arith, omega arith)

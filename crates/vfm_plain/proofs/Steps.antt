@@ -13,9 +13,9 @@ use Rattle.vfm_types.specs.declared.job.Place.{Place}
 use Rattle.vfm_types.specs.declared.desc.DevShape.{DevShape}
 use Rattle.vfm_types.specs.declared.desc.Desc.{Desc}
 use Rattle.vfm_types.specs.Desc.{device_count, shape_at}
-use Rattle.vfm_types.specs.Job.{length_of, place_of, owner_of, is_bell}
-use Rattle.vfm_types.specs.Machine.{DeviceState, Machine, no_device, device_of, with_device, bytes_in, with_bytes, splice, bytes_at, put_at, with_front, accepting, losing, rung, ring, write_at, added, effect}
-use Rattle.vfm_types.specs.Requests.{is_free, is_enabled, job_number, job_of, without, taken, do_request}
+use Rattle.vfm_types.specs.Job.{length_of, place_of, owner_or_zero, is_bell}
+use Rattle.vfm_types.specs.Machine.{DeviceState, Machine, no_device, device_of, with_device, bytes_in, with_bytes, splice, bytes_at, put_at, with_front, with_accepted_request, with_lost_request, with_bell_rung, ring, write_at, added, effect}
+use Rattle.vfm_types.specs.Requests.{is_free, is_enabled, job_or_zero, job_of, without, taken, do_request}
 use Rattle.vfm_types.specs.Valid.{IsValid, IsSoundJob, is_job_in_range}
 use Rattle.vfm_plain.specs.Shape.{DeviceHasShape, HasShape, LiesIn, Lies}
 use Rattle.vfm_plain.proofs.Sound.{both, sound_job, job_in_range, lies_of_job, some_bytes}
@@ -85,20 +85,20 @@ shape-with_front D m d bytes few shape =
     shape-with_device D m d (record (device_of m d) { buf = splice (device_of m d).buf 0 bytes }) (λ here. record { bar = here.bar; buf = length-splice (device_of m d).buf 0 bytes (omega (arith, here.buf)) ∙ here.buf; jobs = here.jobs }) shape
 
 -- the doorbell's two outcomes
-pub rung_keeps : (P : DeviceState → Type 0) (shape : DevShape) (dev : DeviceState) (number : ℕ) → (number < length shape.jobs → dev.accepted < shape.budget → P (accepting dev number)) → P (losing dev) → P (rung shape dev number)
+pub rung_keeps : (P : DeviceState → Type 0) (shape : DevShape) (dev : DeviceState) (number : ℕ) → (number < length shape.jobs → dev.accepted < shape.budget → P (with_accepted_request dev number)) → P (with_lost_request dev) → P (with_bell_rung shape dev number)
 rung_keeps P shape dev number taken lost = at (nat_lt number (length shape.jobs) && nat_lt dev.accepted shape.budget) refl
   where
-    at : (b : Bool) → (nat_lt number (length shape.jobs) && nat_lt dev.accepted shape.budget) ≡ b → P (if b then accepting dev number else losing dev)
+    at : (b : Bool) → (nat_lt number (length shape.jobs) && nat_lt dev.accepted shape.budget) ≡ b → P (if b then with_accepted_request dev number else with_lost_request dev)
     at true e = let h = both _ _ e in taken (ltb-true _ _ h.0) (ltb-true _ _ h.1)
     at false e = lost
 
 pub shape-ring : (D : Desc) (m : Machine) (d number : ℕ) → HasShape D m → HasShape D (ring D m d number)
 shape-ring D m d number shape =
-    shape-with_device D m d (rung (shape_at D d) (device_of m d) number) (λ here. rung_keeps (DeviceHasShape (shape_at D d)) (shape_at D d) (device_of m d) number (λ there spare. record { bar = here.bar; buf = here.buf; jobs = All-push (λ request. request.1 < length (shape_at D d).jobs) (device_of m d).pending ((device_of m d).accepted, number) here.jobs there }) (record { bar = here.bar; buf = here.buf; jobs = here.jobs })) shape
+    shape-with_device D m d (with_bell_rung (shape_at D d) (device_of m d) number) (λ here. rung_keeps (DeviceHasShape (shape_at D d)) (shape_at D d) (device_of m d) number (λ there spare. record { bar = here.bar; buf = here.buf; jobs = All-push (λ request. request.1 < length (shape_at D d).jobs) (device_of m d).pending ((device_of m d).accepted, number) here.jobs there }) (record { bar = here.bar; buf = here.buf; jobs = here.jobs })) shape
 
 pub shape-write_at : (D : Desc) (m : Machine) (place : Place) (bytes : List ℕ) → Lies D place (length bytes) → HasShape D m → HasShape D (write_at D m place bytes)
 shape-write_at D m place bytes lies shape =
-    elim (is_bell place (length bytes)) as (λ b. HasShape D (if b then ring D m (owner_of place.region) (from_le_bytes w64 bytes) else put_at m place bytes)) [ true ↦ shape-ring D m (owner_of place.region) (from_le_bytes w64 bytes) shape | false ↦ shape-put_at D m place bytes lies shape ]
+    elim (is_bell place (length bytes)) as (λ b. HasShape D (if b then ring D m (owner_or_zero place.region) (from_le_bytes w64 bytes) else put_at m place bytes)) [ true ↦ shape-ring D m (owner_or_zero place.region) (from_le_bytes w64 bytes) shape | false ↦ shape-put_at D m place bytes lies shape ]
 
 -- at most len bytes are taken
 few-take : (len : ℕ) (bytes : List ℕ) → length (take len bytes) ≤ len
@@ -130,7 +130,7 @@ shape-taken D m d n shape =
     shape-with_device D m d (taken (device_of m d) n) (λ here. record { bar = here.bar; buf = here.buf; jobs = All-without (λ request. request.1 < length (shape_at D d).jobs) n (device_of m d).pending here.jobs }) shape
 
 -- what holds of each of the requests holds of a free one's job
-pub free_job : (fence : ℕ → Bool) (first : Bool) (window : ℕ) (requests : List (ℕ × ℕ)) (n bound : ℕ) → All (λ request. request.1 < bound) requests → is_free fence first window requests n ≡ true → job_number n requests < bound
+pub free_job : (fence : ℕ → Bool) (first : Bool) (window : ℕ) (requests : List (ℕ × ℕ)) (n bound : ℕ) → All (λ request. request.1 < bound) requests → is_free fence first window requests n ≡ true → job_or_zero n requests < bound
 free_job fence first zero requests n bound jobs free = absurd (false≢true free)
 free_job fence first (suc window) [] n bound jobs free = absurd (false≢true free)
 free_job fence first (suc window) (request ∷ requests) n bound jobs free =
@@ -139,7 +139,7 @@ free_job fence first (suc window) (request ∷ requests) n bound jobs free =
     here : request.1 < bound
     here = All-head (λ r. r.1 < bound) request requests jobs
 
-    at : (b c : Bool) → (is_free fence false window requests n ≡ true → job_number n requests < bound) → (if b then first || not (fence request.1) else (if c then false else is_free fence false window requests n)) ≡ true → (if b then request.1 else job_number n requests) < bound
+    at : (b c : Bool) → (is_free fence false window requests n ≡ true → job_or_zero n requests < bound) → (if b then first || not (fence request.1) else (if c then false else is_free fence false window requests n)) ≡ true → (if b then request.1 else job_or_zero n requests) < bound
     at true c later e = here
     at false true later e = absurd (false≢true e)
     at false false later e = later e
@@ -148,8 +148,8 @@ free_job fence first (suc window) (request ∷ requests) n bound jobs free =
 pub shape-do_request : (D : Desc) (m : Machine) (d n : ℕ) → IsValid D → d < device_count D → IsTrue (is_enabled D m d n) → HasShape D m → HasShape D (do_request D m d n)
 shape-do_request D m d n valid within free shape =
     let there = free_job _ _ _ (device_of m d).pending n (length (shape_at D d).jobs) (shape.device d within).jobs free in
-    let sound = sound_job D d (job_number n (device_of m d).pending) valid within there in
-    let range = some_bytes (job_of D m d n) (job_in_range D d (job_number n (device_of m d).pending) valid within there) in
+    let sound = sound_job D d (job_or_zero n (device_of m d).pending) valid within there in
+    let range = some_bytes (job_of D m d n) (job_in_range D d (job_or_zero n (device_of m d).pending) valid within there) in
     shape-effect D _ d (job_of D m d n) (lies_of_job D d (job_of D m d n) valid sound range.0) range.1 within (shape-taken D m d n shape)
 
 -- the request at place k taken away

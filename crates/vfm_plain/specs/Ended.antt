@@ -4,9 +4,9 @@ use Rattle.vfm_types.specs.declared.state.MigState.TheVariants.{Running}
 use Rattle.vfm_types.specs.declared.entry.Entry.{Entry}
 use Rattle.vfm_types.specs.declared.desc.Desc.{Desc}
 use Rattle.vfm_types.specs.Desc.{device_count}
-use Rattle.vfm_types.specs.Least.{all_below}
+use Rattle.vfm_base.specs.Least.{all_below}
 use Rattle.vfm_types.specs.Phases.{is_joint, is_aborted, is_resumed, is_last_begun}
-use Rattle.vfm_types.specs.Blocks.{is_pass_ended}
+use Rattle.vfm_types.specs.Blocks.{is_no_pass_open}
 use Rattle.vfm_types.specs.Words.{all_stand_in, is_idle}
 
 -- every device is RUNNING and idle after the list, newest first
@@ -19,4 +19,4 @@ went_on D past = has_ended D past && is_aborted past && not (is_resumed past)
 
 -- the last pass has begun and ended: everything that is to be copied is
 abbrev pub is_last_ended : Desc → List Entry → Bool
-is_last_ended D past = is_joint past && is_last_begun past && is_pass_ended D past
+is_last_ended D past = is_joint past && is_last_begun past && is_no_pass_open D past

@@ -17,14 +17,14 @@ impl Plain {
         sheet.put(0, bytes);
     }
 
-    /// Puts other bytes into a device's BAR, as many as it has.
+    /// Puts other bytes into a device's BARs, as many as they have.
     pub fn set_bar(&mut self, d: DeviceId, bytes: &[u8])
         requires device { d < length self.old.devices }
         requires size { length bytes.now ≡ length (device_of self.old d).bar }
         ensures { self.new ≡ with_device self.old d (record (device_of self.old d) { bar = bytes.now }) }
     {
-        let engine = &mut self.devices[d.0 as usize];
-        engine.put_bar(0, bytes);
+        let device = &mut self.devices[d.0 as usize];
+        device.put_bar(0, bytes);
     }
 
     /// Puts 64 other bytes into a device's buffer.
@@ -34,8 +34,8 @@ impl Plain {
         requires few { length bytes.now ≡ 64 }
         ensures { self.new ≡ with_device self.old d (record (device_of self.old d) { buf = bytes.now }) }
     {
-        let engine = &mut self.devices[d.0 as usize];
-        engine.put_front(bytes);
+        let device = &mut self.devices[d.0 as usize];
+        device.put_front(bytes);
     }
 
     /// Starts a device anew with so many requests done and so many lost, and none pending.
@@ -45,11 +45,11 @@ impl Plain {
         ensures { self.new ≡ with_device self.old d
             (record (device_of self.old d) { pending = []; accepted = done; done = done; lost = lost }) }
     {
-        let engine = &mut self.devices[d.0 as usize];
-        engine.restart(done, lost);
+        let device = &mut self.devices[d.0 as usize];
+        device.restart(done, lost);
     }
 
-    /// Adds a request behind a device's pending ones.
+    /// Adds a request after a device's pending ones.
     pub fn add_pending(&mut self, d: DeviceId, number: u32, job: u32)
         requires device { d < length self.old.devices }
         requires few { (device_of self.old d).accepted < 50000 }
@@ -58,7 +58,7 @@ impl Plain {
           accepted = (device_of self.old d).accepted + 1;
         }) }
     {
-        let engine = &mut self.devices[d.0 as usize];
-        engine.add_pending(number, job);
+        let device = &mut self.devices[d.0 as usize];
+        device.add_pending(number, job);
     }
 }

@@ -2,13 +2,13 @@
 
 ghost use Rattle.std.specs.Prelude.{◌≡◌, ◌+◌, ◌<◌, ◌≤◌, ◌↔◌, ℕ, Some, [], length, map, replicate, remove, take, is_ok, is_some, slice_index_or, vec_len, All, IfOk, IfSome, OnOk, OnErr, IsTrue};
 ghost use Rattle.vfm_types.specs.Desc.{device_count, job_at, shape_at};
-ghost use Rattle.vfm_types.specs.Job.{length_of, owner_of, place_of};
+ghost use Rattle.vfm_types.specs.Job.{length_of, owner_or_zero, place_of};
 ghost use Rattle.vfm_types.specs.Valid.{IsValid, IsSoundJob, is_job_in_range};
 ghost use Rattle.vfm_types.specs.Machine.{device_of, with_device, described, described_device, bytes_in, bytes_at, put_at, write_at, with_front, ring, added, effect};
-ghost use Rattle.vfm_types.specs.Requests.{is_enabled, job_of, job_number, without, taken, do_request};
+ghost use Rattle.vfm_types.specs.Requests.{is_enabled, job_of, job_or_zero, without, taken, do_request};
 ghost use Rattle.vfm_plain.specs.Shape.{HasShape, HasRegion, CanLose, Lies, IsSound};
 
-use crate::engine::Engine;
+use crate::device::PlainDevice;
 use crate::sheet::{Sheet, added_to, held_bytes, number_of};
 use crate::window::free_place;
 use std::alloc::Global;
@@ -23,7 +23,7 @@ pub struct NotEnabled;
 #[derive(Drop)]
 pub struct Plain {
     pub(crate) pages: Vec<Sheet>,
-    pub(crate) devices: Vec<Engine>,
+    pub(crate) devices: Vec<PlainDevice>,
 }
 
 impl Model for Plain {
@@ -44,7 +44,7 @@ impl Plain {
         ensures sound { IfOk result (IsSound desc.now) }
     {
         let pages = zero_pages(alloc, desc.pages, desc.page)?;
-        let devices = described_engines(alloc, &desc.devices)?;
+        let devices = described_devices(alloc, &desc.devices)?;
         Ok(Plain { pages, devices })
     }
 
@@ -57,13 +57,13 @@ impl Plain {
         sheet.bytes()
     }
 
-    /// Lends the bytes of a device's BAR.
+    /// Lends the bytes of a device's BARs, one after the other.
     pub fn bar(&self, d: DeviceId) -> &[u8]
         requires { d < length self.now.devices }
         ensures { result.now ≡ (device_of self.now d).bar }
     {
-        let engine = &self.devices[d.0 as usize];
-        engine.bar()
+        let device = &self.devices[d.0 as usize];
+        device.bar()
     }
 
     /// Lends a device's buffer.
@@ -71,8 +71,8 @@ impl Plain {
         requires { d < length self.now.devices }
         ensures { result.now ≡ (device_of self.now d).buf }
     {
-        let engine = &self.devices[d.0 as usize];
-        engine.buf()
+        let device = &self.devices[d.0 as usize];
+        device.buf()
     }
 
     /// How many requests a device accepted, did and lost.
@@ -82,8 +82,8 @@ impl Plain {
         ensures done { result.1 ≡ (device_of self.now d).done }
         ensures lost { result.2 ≡ (device_of self.now d).lost }
     {
-        let engine = &self.devices[d.0 as usize];
-        engine.counts()
+        let device = &self.devices[d.0 as usize];
+        device.counts()
     }
 
     /// Lends a device's pending requests in order, each with its number and the number of its job.
@@ -91,8 +91,8 @@ impl Plain {
         requires { d < length self.now.devices }
         ensures { result.now ≡ (device_of self.now d).pending }
     {
-        let engine = &self.devices[d.0 as usize];
-        engine.pending()
+        let device = &self.devices[d.0 as usize];
+        device.pending()
     }
 
     /// Whether both machines are equal in every part.
@@ -100,7 +100,7 @@ impl Plain {
         ensures { IsTrue result ↔ (self.now ≡ other.now) }
     {
         same_pages(self.pages.as_slice(), other.pages.as_slice())
-            && same_engines(self.devices.as_slice(), other.devices.as_slice())
+            && same_devices(self.devices.as_slice(), other.devices.as_slice())
     }
 
     /// Whether request `n` of a device may be done now: it stands among the first `window` pending requests, no fence
@@ -122,7 +122,7 @@ impl Plain {
         ensures within { IfSome result (λ k. k < length (device_of self.now d).pending) }
         ensures rest { IfSome result (λ k. remove (device_of self.now d).pending k ≡ without n (device_of self.now d).pending) }
         ensures job { IfSome result
-            (λ k. (slice_index_or (device_of self.now d).pending k (0, 0)).1 ≡ job_number n (device_of self.now d).pending) }
+            (λ k. (slice_index_or (device_of self.now d).pending k (0, 0)).1 ≡ job_or_zero n (device_of self.now d).pending) }
     {
         let shape = desc.devices.at(d.0 as u32);
         free_place(&shape.jobs, shape.window, self.pending(d), n)
@@ -164,8 +164,8 @@ impl Plain {
         }) }
     {
         let number = self.pending(d)[k].1;
-        let engine = &mut self.devices[d.0 as usize];
-        engine.take(k);
+        let device = &mut self.devices[d.0 as usize];
+        device.take(k);
         number
     }
 
@@ -198,7 +198,7 @@ impl Plain {
         ensures { self.new ≡ write_at desc.now self.old place.now bytes.now }
     {
         if place.is_bell(bytes.len() as u32) {
-            self.ring(desc, owner_of(place.region), number_of(bytes));
+            self.ring(desc, owner_or_zero(place.region), number_of(bytes));
         } else {
             self.put_at(place, bytes);
         }
@@ -212,8 +212,8 @@ impl Plain {
         requires lost { CanLose desc.now self.old }
         ensures { self.new ≡ ring desc.now self.old d number }
     {
-        let engine = &mut self.devices[d.0 as usize];
-        engine.ring(desc.devices.at(d.0 as u32), number);
+        let device = &mut self.devices[d.0 as usize];
+        device.ring(desc.devices.at(d.0 as u32), number);
     }
 
     // reads bytes at a place into the front of the device's buffer
@@ -292,8 +292,8 @@ impl Plain {
                 sheet.put(place.offset, bytes);
             }
             Region::Bar(d) => {
-                let engine = &mut self.devices[d.0 as usize];
-                engine.put_bar(place.offset, bytes);
+                let device = &mut self.devices[d.0 as usize];
+                device.put_bar(place.offset, bytes);
             }
         }
     }
@@ -304,8 +304,8 @@ impl Plain {
         requires few { length bytes.now ≤ 64 }
         ensures { self.new ≡ with_front self.old d bytes.now }
     {
-        let engine = &mut self.devices[d.0 as usize];
-        engine.put_front(bytes);
+        let device = &mut self.devices[d.0 as usize];
+        device.put_front(bytes);
     }
 }
 
@@ -329,9 +329,9 @@ fn place_of(desc: &Desc, d: DeviceId, job: &Job) -> Place
     desc.place_of(job)
 }
 
-/// The device whose BAR the region is.
-fn owner_of(region: Region) -> DeviceId
-    ensures { result ≡ owner_of region }
+/// The device whose BARs the region is; device 0 for a page, which no device owns.
+fn owner_or_zero(region: Region) -> DeviceId
+    ensures { result ≡ owner_or_zero region }
 {
     match region {
         Region::Page(_) => DeviceId(0),
@@ -351,13 +351,13 @@ fn zero_pages(alloc: Global, pages: u32, page: u32) -> Result<Vec<Sheet>, NoMemo
 }
 
 /// The devices as described.
-fn described_engines(alloc: Global, shapes: &Shapes) -> Result<Vec<Engine>, NoMemory>
+fn described_devices(alloc: Global, shapes: &Shapes) -> Result<Vec<PlainDevice>, NoMemory>
     requires { All (λ shape. length shape.queue ≤ 50000) shapes.now }
     ensures { IfOk result (λ list. list.items ≡ map described_device shapes.now) }
 {
     let mut list = Vec::with_capacity(alloc, shapes.len() as usize)?;
     for shape in shapes.as_slice() {
-        list.push(Engine::of(alloc, shape)?)?;
+        list.push(PlainDevice::of(alloc, shape)?)?;
     }
     Ok(list)
 }
@@ -379,15 +379,15 @@ fn same_pages(one: &[Sheet], other: &[Sheet]) -> bool
 }
 
 /// Whether both are the same devices.
-fn same_engines(one: &[Engine], other: &[Engine]) -> bool
+fn same_devices(one: &[PlainDevice], other: &[PlainDevice]) -> bool
     ensures { IsTrue result ↔ (one.now ≡ other.now) }
 {
     if one.len() != other.len() {
         return false;
     }
     for d in 0..one.len() {
-        let engine = &one[d];
-        if !engine.same(&other[d]) {
+        let device = &one[d];
+        if !device.same(&other[d]) {
             return false;
         }
     }

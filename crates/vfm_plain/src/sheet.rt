@@ -1,4 +1,4 @@
-//! A run of bytes that keeps its length: a page of memory, or the BAR of a device.
+//! A run of bytes that keeps its length: a page of memory, or the BARs of a device.
 
 ghost use Rattle.std.specs.Prelude.{◌≡◌, ◌+◌, ◌≤◌, ◌↔◌, length, replicate, take, IfOk, IsTrue};
 ghost use Rattle.std.specs.Int.{w64, from_le_bytes};
@@ -9,7 +9,7 @@ use std::alloc::Global;
 use std::marker::Model;
 use vfm_types::NoMemory;
 
-/// The bytes. Seen as the list of them.
+/// A run of bytes whose length doesn't change. Seen as the list of them.
 #[derive(Drop)]
 pub struct Sheet {
     bytes: Vec<u8>,
@@ -71,7 +71,7 @@ pub fn same_bytes(one: &[u8], other: &[u8]) -> bool
     one == other
 }
 
-/// At most 64 bytes, with zeros behind them.
+/// At most 64 bytes, with zeros after them.
 pub fn held_bytes(bytes: &[u8]) -> [u8; 64]
     requires { length bytes.now ≤ 64 }
     ensures { take (length bytes.now) result ≡ bytes.now }

@@ -3,7 +3,7 @@
 ghost use Rattle.std.specs.Prelude.{◌≡◌, ◌+◌, ◌<◌, ◌≤◌, ◌==◌, ◌||◌, not, ℕ, true, length, remove, is_some, slice_index_or, IfSome, All};
 ghost use Rattle.vfm_types.specs.Desc.{no_job};
 ghost use Rattle.vfm_types.specs.Job.{is_fence};
-ghost use Rattle.vfm_types.specs.Requests.{is_free, without, job_number};
+ghost use Rattle.vfm_types.specs.Requests.{is_free, without, job_or_zero};
 
 use vfm_types::Jobs;
 
@@ -21,7 +21,7 @@ pub fn free_place(jobs: &Jobs, window: u8, pending: &[(u32, u32)], n: u32) -> Op
     ensures free { is_some result ≡ is_free (λ j. is_fence (slice_index_or jobs.now j no_job)) true window pending.now n }
     ensures within { IfSome result (λ k. k < length pending.now) }
     ensures rest { IfSome result (λ k. remove pending.now k ≡ without n pending.now) }
-    ensures job { IfSome result (λ k. (slice_index_or pending.now k (0, 0)).1 ≡ job_number n pending.now) }
+    ensures job { IfSome result (λ k. (slice_index_or pending.now k (0, 0)).1 ≡ job_or_zero n pending.now) }
 {
     let most = pending.len().min(window as usize);
     for k in 0..most {

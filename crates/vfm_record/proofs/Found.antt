@@ -10,11 +10,12 @@ use Rattle.vfm_types.specs.declared.desc.DevShape.{DevShape}
 use Rattle.vfm_types.specs.declared.desc.Desc.{Desc}
 use Rattle.vfm_record.specs.declared.tag.Tag.{Tag}
 use Rattle.vfm_record.specs.declared.tag.Tag.TheVariants as tags
-use Rattle.vfm_record.specs.Words.{IsBytes, word_at}
-use Rattle.vfm_record.specs.Record.{Record, spelling, KeepsBell, device_of, IsRecordOf}
-use Rattle.vfm_record.specs.Tests.{Test, tag_of, tag_at, keeps_bell, number_of, page_tests, block_tests, engine_tests, pending_tests, config_tests, first_failed, fault_behind, record_fault, record_with, record_behind, record_at}
+use Rattle.vfm_base.specs.Words.{IsBytes, word_at}
+use Rattle.vfm_record.specs.Record.{Record, record_bytes, KeepsBell, shape_of_stream, IsRecordOf}
+use Rattle.vfm_record.specs.Tests.{Test, tag_of, tag_at, keeps_bell, number_of, page_tests, block_tests, engine_tests, pending_tests, config_tests, fault_after, record_fault, record_with, record_after, record_at}
+use Rattle.vfm_base.specs.Tests.{first_failed}
 use Rattle.vfm_record.proofs.Words.{word_16, word_32, word_64, IsBytes-drop}
-use Rattle.vfm_record.proofs.Pairs.{length-pairs_of, pairs_fit, pending_spelled}
+use Rattle.vfm_record.proofs.Pairs.{length-pairs_of, pairs_fit, pending_encoded}
 
 -- ---- the list of tests
 
@@ -89,7 +90,7 @@ numbered_fields n bytes e long fits =
     )
 
 engine_fields : (bytes : List ℕ) → get_or bytes 0 0 ≡ 3 → 17 ≤ length bytes → IsBytes bytes
-    → bytes ≡ spelling (record_with tags.Engine bytes)
+    → bytes ≡ record_bytes (record_with tags.Engine bytes)
 engine_fields bytes e long fits =
     let first = first_byte 3 bytes (omega arith) e in
     let a = word_32 1 bytes (omega arith) fits in
@@ -97,7 +98,7 @@ engine_fields bytes e long fits =
     let l = word_32 9 bytes (omega arith) fits in
     let p = word_32 13 bytes (omega arith) fits in
     sym (
-    spelled_by bytes 3 (word_at w32 1 bytes) (word_at w32 5 bytes) (word_at w32 9 bytes) (word_at w32 13 bytes)
+    encoded_by bytes 3 (word_at w32 1 bytes) (word_at w32 5 bytes) (word_at w32 9 bytes) (word_at w32 13 bytes)
     first (sym a.0) (sym d.0) (sym l.0) (sym p.0)
     ∙ take-append-drop 17 bytes
     )
@@ -105,10 +106,10 @@ engine_fields bytes e long fits =
     fields : (l : List ℕ) → take 17 l ≡ (((take 1 l ++ take 4 (drop 1 l)) ++ take 4 (drop 5 l)) ++ take 4 (drop 9 l)) ++ take 4 (drop 13 l)
     fields l = rw (take-add 13 4 l, take-add 9 4 l, take-add 5 4 l, take-add 1 4 l) refl
 
-    spelled_by : (x : List ℕ) (n a d l p : ℕ) → take 1 x ≡ n ∷ [] → take 4 (drop 1 x) ≡ to_be_bytes w32 a → take 4 (drop 5 x) ≡ to_be_bytes w32 d
+    encoded_by : (x : List ℕ) (n a d l p : ℕ) → take 1 x ≡ n ∷ [] → take 4 (drop 1 x) ≡ to_be_bytes w32 a → take 4 (drop 5 x) ≡ to_be_bytes w32 d
         → take 4 (drop 9 x) ≡ to_be_bytes w32 l → take 4 (drop 13 x) ≡ to_be_bytes w32 p
         → (n ∷ (to_be_bytes w32 a ++ to_be_bytes w32 d ++ to_be_bytes w32 l ++ to_be_bytes w32 p)) ++ drop 17 x ≡ take 17 x ++ drop 17 x
-    spelled_by x n a d l p first ea ed el ep =
+    encoded_by x n a d l p first ea ed el ep =
         let front : take 17 x ≡ n ∷ (to_be_bytes w32 a ++ to_be_bytes w32 d ++ to_be_bytes w32 l ++ to_be_bytes w32 p) =
         fields x ∙ rw (first, ea, ed, el, ep) refl in
         ap (λ (t : List ℕ). t ++ drop 17 x) (sym front)
@@ -145,11 +146,11 @@ bell_kept bytes long fits kept is_first =
     sym word.0 ∙ ap (to_be_bytes w64) zero_word
 
 -- a record of the stream, which the bytes spell
-abbrev pub IsSpelled : Desc → ℕ → List ℕ → Record → Type 0
-IsSpelled D stream bytes r = IsRecordOf D stream r × (bytes ≡ spelling r)
+abbrev pub IsEncoding : Desc → ℕ → List ℕ → Record → Type 0
+IsEncoding D stream bytes r = IsRecordOf D stream r × (bytes ≡ record_bytes r)
 
 page_found : (D : Desc) (stream : ℕ) (bytes : List ℕ) → IsBytes bytes → get_or bytes 0 0 ≡ 1 → stream ≡ 0
-    → first_failed (page_tests D bytes) ≡ None → IsSpelled D stream bytes (record_with tags.Page bytes)
+    → first_failed (page_tests D bytes) ≡ None → IsEncoding D stream bytes (record_with tags.Page bytes)
 unfolding page_tests
 page_found D stream bytes fits first memory none =
     let held = held_from_none (page_tests D bytes) none in
@@ -159,8 +160,8 @@ page_found D stream bytes fits first memory none =
     (record { fits = number.1; of = (memory, below, omega (arith, length-drop 5 bytes)) }, numbered_fields 1 bytes first (omega arith) fits)
 
 block_found : (D : Desc) (stream : ℕ) (shape : DevShape) (bytes : List ℕ) → IsBytes bytes → get_or bytes 0 0 ≡ 2 → 0 < stream
-    → shape ≡ device_of D stream
-    → first_failed (block_tests shape bytes) ≡ None → IsSpelled D stream bytes (record_with tags.Block bytes)
+    → shape ≡ shape_of_stream D stream
+    → first_failed (block_tests shape bytes) ≡ None → IsEncoding D stream bytes (record_with tags.Block bytes)
 unfolding block_tests
 block_found D stream shape bytes fits first device is none =
     let held = held_from_none (block_tests shape bytes) none in
@@ -172,10 +173,10 @@ block_found D stream shape bytes fits first device is none =
     )
 
 engine_found : (D : Desc) (stream : ℕ) (bytes : List ℕ) → IsBytes bytes → get_or bytes 0 0 ≡ 3 → 0 < stream
-    → first_failed (engine_tests (device_of D stream) bytes) ≡ None → IsSpelled D stream bytes (record_with tags.Engine bytes)
+    → first_failed (engine_tests (shape_of_stream D stream) bytes) ≡ None → IsEncoding D stream bytes (record_with tags.Engine bytes)
 unfolding engine_tests
 engine_found D stream bytes fits first device none =
-    let held = held_from_none (engine_tests (device_of D stream) bytes) none in
+    let held = held_from_none (engine_tests (shape_of_stream D stream) bytes) none in
     let len = eqb-true _ _ held.0 in
     let budget = leb-true _ _ held.1.0 in
     let sum = eqb-true _ _ held.1.1.0 in
@@ -189,7 +190,7 @@ engine_found D stream bytes fits first device none =
     )
 
 pending_found : (D : Desc) (stream : ℕ) (bytes : List ℕ) → IsBytes bytes → get_or bytes 0 0 ≡ 4 → 0 < stream
-    → first_failed (pending_tests bytes) ≡ None → IsSpelled D stream bytes (record_with tags.Pending bytes)
+    → first_failed (pending_tests bytes) ≡ None → IsEncoding D stream bytes (record_with tags.Pending bytes)
 unfolding pending_tests
 pending_found D stream bytes fits first device none =
     let held = held_from_none (pending_tests bytes) none in
@@ -205,28 +206,28 @@ pending_found D stream bytes fits first device none =
         fits = (omega (arith, many, high), pairs_fit (word_at w16 1 bytes) (drop 3 bytes) rest behind);
         of = (device, omega (arith, many, low), omega (arith, many, high));
       },
-      pending_fields bytes first (omega arith) fits ∙ pending_spelled (word_at w16 1 bytes) (drop 3 bytes) rest behind,
+      pending_fields bytes first (omega arith) fits ∙ pending_encoded (word_at w16 1 bytes) (drop 3 bytes) rest behind,
     )
 
 config_found : (D : Desc) (stream : ℕ) (bytes : List ℕ) → get_or bytes 0 0 ≡ 5
-    → first_failed (config_tests bytes) ≡ None → IsSpelled D stream bytes (record_with tags.Config bytes)
+    → first_failed (config_tests bytes) ≡ None → IsEncoding D stream bytes (record_with tags.Config bytes)
 unfolding config_tests
 config_found D stream bytes first none =
     let held = held_from_none (config_tests bytes) none in
     let len = eqb-true _ _ held.0 in
     (record { fits = tt; of = omega (arith, length-drop 1 bytes) }, config_fields bytes first (omega arith))
 
-behind_found : (D : Desc) (stream : ℕ) (bytes : List ℕ) → IsBytes bytes → (o : Option Tag) → TagFacts stream (get_or bytes 0 0) o
-    → fault_behind D stream o bytes ≡ None → IsSpelled D stream bytes (record_behind o bytes)
-behind_found D stream bytes fits None facts none = absurd cc
-behind_found D stream bytes fits (Some tags.Page) facts none = page_found D stream bytes fits facts.0 facts.1 none
-behind_found D stream bytes fits (Some tags.Block) facts none = block_found D stream (device_of D stream) bytes fits facts.0 facts.1 refl none
-behind_found D stream bytes fits (Some tags.Engine) facts none = engine_found D stream bytes fits facts.0 facts.1 none
-behind_found D stream bytes fits (Some tags.Pending) facts none = pending_found D stream bytes fits facts.0 facts.1 none
-behind_found D stream bytes fits (Some tags.Config) facts none = config_found D stream bytes facts none
+after_found : (D : Desc) (stream : ℕ) (bytes : List ℕ) → IsBytes bytes → (o : Option Tag) → TagFacts stream (get_or bytes 0 0) o
+    → fault_after D stream o bytes ≡ None → IsEncoding D stream bytes (record_after o bytes)
+after_found D stream bytes fits None facts none = absurd cc
+after_found D stream bytes fits (Some tags.Page) facts none = page_found D stream bytes fits facts.0 facts.1 none
+after_found D stream bytes fits (Some tags.Block) facts none = block_found D stream (shape_of_stream D stream) bytes fits facts.0 facts.1 refl none
+after_found D stream bytes fits (Some tags.Engine) facts none = engine_found D stream bytes fits facts.0 facts.1 none
+after_found D stream bytes fits (Some tags.Pending) facts none = pending_found D stream bytes fits facts.0 facts.1 none
+after_found D stream bytes fits (Some tags.Config) facts none = config_found D stream bytes facts none
 
 -- bytes that pass the tests spell the record that is read
 pub found : (D : Desc) (stream : ℕ) (bytes : List ℕ) → IsBytes bytes → record_fault D stream bytes ≡ None
-    → IsSpelled D stream bytes (record_at stream bytes)
+    → IsEncoding D stream bytes (record_at stream bytes)
 unfolding record_fault
-found D stream bytes fits none = behind_found D stream bytes fits (tag_at stream bytes) (tag_facts stream (get_or bytes 0 0)) none
+found D stream bytes fits none = after_found D stream bytes fits (tag_at stream bytes) (tag_facts stream (get_or bytes 0 0)) none

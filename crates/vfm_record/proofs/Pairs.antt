@@ -5,8 +5,8 @@ use Rattle.std.specs.Int.{w16, w32, to_be_bytes}
 use Rattle.std.proofs.lemmas.List.{length-drop, take-append-drop}
 use Rattle.std.proofs.lemmas.Nat.{from_be_bytes-to_be_bytes_4}
 use Rattle.std.proofs.Math.Seq.{take-add}
-use Rattle.vfm_record.specs.Words.{IsBytes, word_at}
-use Rattle.vfm_record.specs.Record.{Pending, spelling, pair_bytes, FitsPair, pairs_of}
+use Rattle.vfm_base.specs.Words.{IsBytes, word_at}
+use Rattle.vfm_record.specs.Record.{Pending, record_bytes, pair_bytes, FitsPair, pairs_of}
 use Rattle.vfm_record.proofs.Words.{IsBytes-drop, word_32, word-drop}
 
 pub length-pairs_of : (n : ℕ) (bytes : List ℕ) → length (pairs_of n bytes) ≡ n
@@ -15,24 +15,24 @@ length-pairs_of zero bytes = refl
 length-pairs_of (suc n) bytes = ap (λ k. suc k) (length-pairs_of n (drop 8 bytes))
 
 -- the first pair spells the first eight bytes
-pair_spelled : (bytes : List ℕ) → 8 ≤ length bytes → IsBytes bytes
+pair_encoded : (bytes : List ℕ) → 8 ≤ length bytes → IsBytes bytes
     → pair_bytes (word_at w32 0 bytes, word_at w32 4 bytes) ≡ take 8 bytes
-pair_spelled bytes long fits =
+pair_encoded bytes long fits =
     let number = word_32 0 bytes (omega arith) fits in
     let job = word_32 4 bytes (omega arith) fits in
     ap (λ (l : List ℕ). l ++ to_be_bytes w32 (word_at w32 4 bytes)) number.0
     ∙ ap (λ (l : List ℕ). take 4 (drop 0 bytes) ++ l) job.0
     ∙ sym (take-add 4 4 bytes)
 
-pub pairs_spelled : (n : ℕ) (bytes : List ℕ) → length bytes ≡ 8 * n → IsBytes bytes → flat_map pair_bytes (pairs_of n bytes) ≡ bytes
+pub pairs_encoded : (n : ℕ) (bytes : List ℕ) → length bytes ≡ 8 * n → IsBytes bytes → flat_map pair_bytes (pairs_of n bytes) ≡ bytes
 unfolding pairs_of
-pairs_spelled zero [] len fits = refl
-pairs_spelled zero (byte ∷ bytes) len fits = absurd (omega arith)
-pairs_spelled (suc n) bytes len fits =
+pairs_encoded zero [] len fits = refl
+pairs_encoded zero (byte ∷ bytes) len fits = absurd (omega arith)
+pairs_encoded (suc n) bytes len fits =
     let rest : length (drop 8 bytes) ≡ 8 * n = omega (arith, length-drop 8 bytes) in
     let long : 8 ≤ length bytes = omega arith in
-    ap (λ (l : List ℕ). l ++ flat_map pair_bytes (pairs_of n (drop 8 bytes))) (pair_spelled bytes long fits)
-    ∙ ap (λ (l : List ℕ). take 8 bytes ++ l) (pairs_spelled n (drop 8 bytes) rest (IsBytes-drop 8 bytes fits))
+    ap (λ (l : List ℕ). l ++ flat_map pair_bytes (pairs_of n (drop 8 bytes))) (pair_encoded bytes long fits)
+    ∙ ap (λ (l : List ℕ). take 8 bytes ++ l) (pairs_encoded n (drop 8 bytes) rest (IsBytes-drop 8 bytes fits))
     ∙ take-append-drop 8 bytes
 
 pub pairs_fit : (n : ℕ) (bytes : List ℕ) → length bytes ≡ 8 * n → IsBytes bytes → AllByRecursion FitsPair (pairs_of n bytes)
@@ -45,12 +45,12 @@ pairs_fit (suc n) bytes len fits =
     ((number.1, job.1), pairs_fit n (drop 8 bytes) rest (IsBytes-drop 8 bytes fits))
 
 -- a count and the bytes behind it spell as many pairs
-pub pending_spelled : (count : ℕ) (bytes : List ℕ) → length bytes ≡ 8 * count → IsBytes bytes
-    → (4 ∷ to_be_bytes w16 count) ++ bytes ≡ spelling (Pending (pairs_of count bytes))
-pending_spelled count bytes len fits =
+pub pending_encoded : (count : ℕ) (bytes : List ℕ) → length bytes ≡ 8 * count → IsBytes bytes
+    → (4 ∷ to_be_bytes w16 count) ++ bytes ≡ record_bytes (Pending (pairs_of count bytes))
+pending_encoded count bytes len fits =
     sym (
     ap (λ (n : ℕ). (4 ∷ to_be_bytes w16 n) ++ flat_map pair_bytes (pairs_of count bytes)) (length-pairs_of count bytes)
-    ∙ ap (λ (l : List ℕ). (4 ∷ to_be_bytes w16 count) ++ l) (pairs_spelled count bytes len fits)
+    ∙ ap (λ (l : List ℕ). (4 ∷ to_be_bytes w16 count) ++ l) (pairs_encoded count bytes len fits)
     )
 
 -- what is spelled is read
@@ -81,5 +81,5 @@ pairs_len [] = refl
 pairs_len (pair ∷ pairs) = omega (arith, pairs_len pairs)
 
 -- as many bytes behind the count
-pub pending_len : (count : ℕ) (bytes : List ℕ) → length bytes ≡ 8 * count → length (spelling (Pending (pairs_of count bytes))) ≡ 3 + length bytes
+pub pending_len : (count : ℕ) (bytes : List ℕ) → length bytes ≡ 8 * count → length (record_bytes (Pending (pairs_of count bytes))) ≡ 3 + length bytes
 pending_len count bytes len = omega (arith, len, pairs_len (pairs_of count bytes), length-pairs_of count bytes)

@@ -6,17 +6,19 @@ use Rattle.vfm_types.specs.declared.desc.DevShape.{DevShape}
 use Rattle.vfm_types.specs.declared.desc.Desc.{Desc}
 use Rattle.vfm_types.specs.Desc.{bar_bytes, block_count, device_count, shape_at}
 use Rattle.vfm_types.specs.DescFault.{form_fault}
-use Rattle.vfm_types.specs.Valid.{is_page_size, ShapeInRange, IsValid}
+use Rattle.vfm_types.proofs.BarSizes.{all_bars}
+use Rattle.vfm_types.specs.Valid.{ShapeInRange, IsValid}
+use Rattle.vfm_types.specs.Ranges.{is_page_size}
 use Rattle.vfm_record.specs.declared.record.Rec.{Rec}
 use Rattle.vfm_record.specs.declared.record.Rec.TheVariants as lent
-use Rattle.vfm_record.specs.Record.{device_of, IsRecordOf, IsRecord, record_of, IsWhole}
+use Rattle.vfm_record.specs.Record.{shape_of_stream, IsRecordOf, IsRecord, record_of, IsWhole}
 use Rattle.vfm_record.specs.Writing.{IsWritable, LendsBytes}
 use Rattle.vfm_record.proofs.Pairs.{length-pairs_of, pairs_fit}
 
 -- ---- a machine that has all that a machine can have, but for the size of its pages
 
 largest_device : DevShape
-largest_device = record { name = 97 ∷ []; flags = 1; bar = 65536; window = 1; tells = false; budget = 50000; fails = 0; jobs = []; queue = [] }
+largest_device = record { name = 97 ∷ []; flags = 1; bars = 65536 ∷ []; window = 1; tells = false; budget = 50000; fails = 0; jobs = []; queue = [] }
 
 largest : ℕ → Desc
 largest page = record {
@@ -36,7 +38,7 @@ unfolding largest_device
 device_in_range = record {
   name = refl;
   flags = refl;
-  bar = refl;
+  bars = refl;
   window_low = omega arith;
   window_high = omega arith;
   budget = omega arith;
@@ -57,7 +59,8 @@ largest_is_valid page size = record {
     pages_high = omega arith;
     channels_low = omega arith;
     channels_high = omega arith;
-    version = refl;
+    version_low = omega arith;
+    version_high = omega arith;
     begin = omega arith;
     rounds = omega arith;
     threshold = omega arith;
@@ -141,14 +144,12 @@ has_machine (lent.Config digest) fits h = (
 )
 
 -- the device of a stream is in its ranges
-device_of_stream : (D : Desc) (stream : ℕ) → IsValid D → stream ≤ device_count D → 0 < stream → ShapeInRange (device_of D stream)
+device_of_stream : (D : Desc) (stream : ℕ) → IsValid D → stream ≤ device_count D → 0 < stream → ShapeInRange (shape_of_stream D stream)
 device_of_stream D stream valid known above = valid.in_range.devices (stream - 1) (omega arith)
 
 blocks_limit : (shape : DevShape) → ShapeInRange shape → block_count shape ≤ 1024
 blocks_limit shape is =
-    let parts = and_parts (nat_le 64 (bar_bytes shape) && nat_le (bar_bytes shape) 65536) (bar_bytes shape % 64 == 0) is.bar in
-    let range = and_parts (nat_le 64 (bar_bytes shape)) (nat_le (bar_bytes shape) 65536) parts.0 in
-    let high : bar_bytes shape ≤ 65536 = leb-true _ _ range.1 in
+    let high : bar_bytes shape ≤ 65536 = (all_bars shape is.bars).high in
     omega arith
 
 pub is_writable : (D : Desc) (stream : ℕ) (r : Rec) → IsValid D → stream ≤ device_count D
@@ -157,7 +158,7 @@ is_writable D stream (lent.Page p bytes) valid known is whole =
     let P : ℕ → Type 0 = λ n. IsTrue (is_page_size n) in
     (omega (arith, is.of.1, valid.in_range.pages_high), subst P (sym is.of.2) valid.in_range.page)
 is_writable D stream (lent.Block b bytes) valid known is whole =
-    let limit = blocks_limit (device_of D stream) (device_of_stream D stream valid known is.of.0) in
+    let limit = blocks_limit (shape_of_stream D stream) (device_of_stream D stream valid known is.of.0) in
     (omega (arith, is.of.1, limit), is.of.2, is.of.3)
 is_writable D stream (lent.Engine accepted done lost pend buf) valid known is whole =
     let shape = device_of_stream D stream valid known is.of.0 in

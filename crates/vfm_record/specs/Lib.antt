@@ -1,4 +1,3 @@
-pub mod Words
 pub mod Record
 pub mod Tests
 pub mod Writing

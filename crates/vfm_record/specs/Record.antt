@@ -8,7 +8,7 @@ use Rattle.vfm_types.specs.Desc.{block_count, device_count, shape_at}
 use Rattle.vfm_types.specs.Valid.{IsValid}
 use Rattle.vfm_record.specs.declared.record.Rec.{Rec}
 use Rattle.vfm_record.specs.declared.record.Rec.TheVariants as lent
-use Rattle.vfm_record.specs.Words.{word_at}
+use Rattle.vfm_base.specs.Words.{word_at}
 
 -- a record by its value
 pub data Record : Type 0 where
@@ -28,13 +28,13 @@ abbrev pub pair_bytes : ℕ × ℕ → List ℕ
 pair_bytes pair = to_be_bytes w32 pair.0 ++ to_be_bytes w32 pair.1
 
 -- the bytes of a record: its tag and what stands behind, each number with its highest byte first
-abbrev pub spelling : Record → List ℕ
-spelling (Page p bytes) = 1 ∷ (to_be_bytes w32 p ++ bytes)
-spelling (Block b bytes) = 2 ∷ (to_be_bytes w32 b ++ bytes)
-spelling (Engine accepted done lost pend buf) =
+abbrev pub record_bytes : Record → List ℕ
+record_bytes (Page p bytes) = 1 ∷ (to_be_bytes w32 p ++ bytes)
+record_bytes (Block b bytes) = 2 ∷ (to_be_bytes w32 b ++ bytes)
+record_bytes (Engine accepted done lost pend buf) =
     3 ∷ (to_be_bytes w32 accepted ++ to_be_bytes w32 done ++ to_be_bytes w32 lost ++ to_be_bytes w32 pend ++ buf)
-spelling (Pending pairs) = 4 ∷ (to_be_bytes w16 (length pairs) ++ flat_map pair_bytes pairs)
-spelling (Config digest) = 5 ∷ digest
+record_bytes (Pending pairs) = 4 ∷ (to_be_bytes w16 (length pairs) ++ flat_map pair_bytes pairs)
+record_bytes (Config digest) = 5 ∷ digest
 
 -- how many bytes a record has
 abbrev pub record_size : Record → ℕ
@@ -69,17 +69,17 @@ abbrev pub most_lost : ℕ
 most_lost = 400000
 
 -- the device whose stream it is
-abbrev pub device_of : Desc → ℕ → DevShape
-device_of D stream = shape_at D (stream - 1)
+abbrev pub shape_of_stream : Desc → ℕ → DevShape
+shape_of_stream D stream = shape_at D (stream - 1)
 
 -- The record is one that the stream of this machine can have. Stream 0 is memory, stream d + 1 is device d; each ends
 -- with its digest.
 abbrev pub IsOf : Desc → ℕ → Record → Type 0
 IsOf D stream (Page p bytes) = (stream ≡ 0) × (p < D.pages) × (length bytes ≡ D.page)
 IsOf D stream (Block b bytes) =
-    (0 < stream) × (b < block_count (device_of D stream)) × (length bytes ≡ 64) × KeepsBell b bytes
+    (0 < stream) × (b < block_count (shape_of_stream D stream)) × (length bytes ≡ 64) × KeepsBell b bytes
 IsOf D stream (Engine accepted done lost pend buf) =
-    (0 < stream) × (accepted ≤ (device_of D stream).budget) × (done + pend ≡ accepted) × (lost ≤ most_lost) × (length buf ≡ 64)
+    (0 < stream) × (accepted ≤ (shape_of_stream D stream).budget) × (done + pend ≡ accepted) × (lost ≤ most_lost) × (length buf ≡ 64)
 IsOf D stream (Pending pairs) = (0 < stream) × (1 ≤ length pairs) × (length pairs ≤ 4096)
 IsOf D stream (Config digest) = length digest ≡ 32
 

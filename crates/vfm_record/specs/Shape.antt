@@ -8,7 +8,7 @@ use Rattle.vfm_types.specs.declared.job.Job.{Job}
 use Rattle.vfm_types.specs.declared.job.Job.TheVariants.{Write, Read, Store, Add}
 use Rattle.vfm_types.specs.declared.desc.DevShape.{DevShape}
 use Rattle.vfm_types.specs.declared.desc.Desc.{Desc}
-use Rattle.vfm_types.specs.Desc.{bar_bytes, shape_at}
+use Rattle.vfm_types.specs.Desc.{shape_at}
 
 -- a word behind another
 abbrev pub word : List ℕ → List ℕ
@@ -26,9 +26,18 @@ line_end = 10 ∷ []
 unfoldable pub memory_line : Desc → List ℕ
 memory_line D = codes "memory" ++ number D.page ++ number D.pages ++ line_end
 
--- the word that says which BAR the device has
-abbrev pub bar_word : DevShape → List ℕ
-bar_word shape = decimal (bar_bytes shape)
+-- one more number of a word of several, after a plus sign
+abbrev pub plus : ℕ → List ℕ
+plus n = 43 ∷ decimal n
+
+-- numbers in order as one word, joined by plus signs
+abbrev pub sizes_word : List ℕ → List ℕ
+sizes_word [] = []
+sizes_word (size ∷ sizes) = decimal size ++ flat_map plus sizes
+
+-- the word that says which BARs the device has: their sizes in order
+abbrev pub bars_word : DevShape → List ℕ
+bars_word shape = sizes_word shape.bars
 
 -- whether the device can tell peer-to-peer DMA from other DMA
 abbrev pub tells_number : Bool → ℕ
@@ -38,7 +47,7 @@ tells_number false = 0
 -- the line of a device
 unfoldable pub device_line : DevShape → List ℕ
 device_line shape =
-    codes "device" ++ word shape.name ++ number shape.flags ++ word (bar_word shape) ++ number shape.window
+    codes "device" ++ word shape.name ++ number shape.flags ++ word (bars_word shape) ++ number shape.window
     ++ number (tells_number shape.tells) ++ number shape.budget ++ number (length shape.jobs) ++ line_end
 
 -- the line of a job
@@ -49,13 +58,13 @@ job_line (Store at len) = codes "store" ++ number at ++ number len ++ line_end
 job_line (Add at value) = codes "add" ++ number at ++ number value ++ line_end
 
 -- the lines of a device and its jobs
-abbrev pub device_text : DevShape → List ℕ
-device_text shape = device_line shape ++ flat_map job_line shape.jobs
+abbrev pub device_shape_text : DevShape → List ℕ
+device_shape_text shape = device_line shape ++ flat_map job_line shape.jobs
 
 -- the shape text of a stream: that of memory, or that of the device
 abbrev pub shape_text : Desc → ℕ → List ℕ
 shape_text D zero = memory_line D
-shape_text D (suc d) = device_text (shape_at D d)
+shape_text D (suc d) = device_shape_text (shape_at D d)
 
 -- its digest: SHA-256 (FIPS 180-4)
 unfoldable pub shape_digest : Desc → ℕ → List ℕ

@@ -8,8 +8,9 @@ use Rattle.vfm_record.specs.declared.record.Rec.{Rec}
 use Rattle.vfm_record.specs.declared.record.RecordFault.{RecordFault}
 use Rattle.vfm_record.specs.declared.tag.Tag.{Tag}
 use Rattle.vfm_record.specs.declared.tag.Tag.TheVariants as tags
-use Rattle.vfm_record.specs.Words.{word_at}
-use Rattle.vfm_record.specs.Record.{Record, Page, Block, Engine, Pending, Config, pairs_of, most_lost, device_of, record_of, IsWhole}
+use Rattle.vfm_base.specs.Words.{word_at}
+use Rattle.vfm_base.specs.Tests.{first_failed}
+use Rattle.vfm_record.specs.Record.{Record, Page, Block, Engine, Pending, Config, pairs_of, most_lost, shape_of_stream, record_of, IsWhole}
 
 -- the tag with a number, if it is one of this stream
 abbrev pub tag_of : ℕ → ℕ → Option Tag
@@ -86,24 +87,19 @@ config_tests bytes = (length bytes == 33, length bytes) ∷ []
 -- the tests behind the tag, in their order
 abbrev pub tests_of : Desc → ℕ → Tag → List ℕ → List Test
 tests_of D stream tags.Page bytes = page_tests D bytes
-tests_of D stream tags.Block bytes = block_tests (device_of D stream) bytes
-tests_of D stream tags.Engine bytes = engine_tests (device_of D stream) bytes
+tests_of D stream tags.Block bytes = block_tests (shape_of_stream D stream) bytes
+tests_of D stream tags.Engine bytes = engine_tests (shape_of_stream D stream) bytes
 tests_of D stream tags.Pending bytes = pending_tests bytes
 tests_of D stream tags.Config bytes = config_tests bytes
 
--- the place of the first test that fails
-abbrev pub first_failed : List Test → Option ℕ
-first_failed [] = None
-first_failed (test ∷ tests) = if test.0 then first_failed tests else Some test.1
-
 -- the tests behind the tag, if there is one
-abbrev pub fault_behind : Desc → ℕ → Option Tag → List ℕ → Option ℕ
-fault_behind D stream None bytes = Some 0
-fault_behind D stream (Some tag) bytes = first_failed (tests_of D stream tag bytes)
+abbrev pub fault_after : Desc → ℕ → Option Tag → List ℕ → Option ℕ
+fault_after D stream None bytes = Some 0
+fault_after D stream (Some tag) bytes = first_failed (tests_of D stream tag bytes)
 
 -- the place of the first test that fails: that of the tag, place 0, then those behind it
 unfoldable pub record_fault : Desc → ℕ → List ℕ → Option ℕ
-record_fault D stream bytes = fault_behind D stream (tag_at stream bytes) bytes
+record_fault D stream bytes = fault_after D stream (tag_at stream bytes) bytes
 
 -- what bytes with this tag say
 abbrev pub record_with : Tag → List ℕ → Record
@@ -114,16 +110,16 @@ record_with tags.Pending bytes = Pending (pairs_of (count_of bytes) (drop 3 byte
 record_with tags.Config bytes = Config (drop 1 bytes)
 
 -- what bytes say that pass the tests; what fails the first one says nothing
-abbrev pub record_behind : Option Tag → List ℕ → Record
-record_behind None bytes = Config []
-record_behind (Some tag) bytes = record_with tag bytes
+abbrev pub record_after : Option Tag → List ℕ → Record
+record_after None bytes = Config []
+record_after (Some tag) bytes = record_with tag bytes
 
 abbrev pub record_at : ℕ → List ℕ → Record
-record_at stream bytes = record_behind (tag_at stream bytes) bytes
+record_at stream bytes = record_after (tag_at stream bytes) bytes
 
 -- the answer is the place of the first test that fails, or, where none does, this record
-abbrev pub Answers : Result Rec RecordFault → Option ℕ → Record → Type 0
-Answers answer fault record_is =
+abbrev pub AgreesWith : Result Rec RecordFault → Option ℕ → Record → Type 0
+AgreesWith answer fault record_is =
     MatchResult answer
     (λ r. (fault ≡ None) × (record_of r ≡ record_is) × IsWhole r)
     (λ refused. fault ≡ Some refused.place)

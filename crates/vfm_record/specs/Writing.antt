@@ -1,9 +1,9 @@
 -- Which records can be written.
 use Rattle.std.specs.Prelude.{◌≡◌, ◌+◌, ◌*◌, ◌<◌, ◌≤◌, IsTrue, length}
-use Rattle.vfm_types.specs.Valid.{is_page_size}
+use Rattle.vfm_types.specs.Ranges.{is_page_size}
 use Rattle.vfm_record.specs.declared.record.Rec.{Rec}
 use Rattle.vfm_record.specs.declared.record.Rec.TheVariants as lent
-use Rattle.vfm_record.specs.Words.{IsBytes}
+use Rattle.vfm_base.specs.Words.{IsBytes}
 use Rattle.vfm_record.specs.Record.{KeepsBell, most_lost}
 
 -- The record has a spelling: it is one of some stream of some machine.

@@ -5,20 +5,20 @@ ghost use Rattle.vfm_types.specs.declared.desc.Desc.{Desc};
 ghost use Rattle.vfm_types.specs.Desc.{device_count};
 ghost use Rattle.vfm_types.specs.Valid.{IsValid};
 ghost use Rattle.vfm_record.specs.declared.record.Rec.{Rec};
-ghost use Rattle.vfm_record.specs.Words.{IsBytes};
-ghost use Rattle.vfm_record.specs.Record.{Record, spelling, record_size, Fits, IsRecordOf, IsRecord, record_of, IsWhole};
+ghost use Rattle.vfm_base.specs.Words.{IsBytes};
+ghost use Rattle.vfm_record.specs.Record.{Record, record_bytes, record_size, Fits, IsRecordOf, IsRecord, record_of, IsWhole};
 ghost use Rattle.vfm_record.specs.Tests.{record_fault, record_at};
 ghost use Rattle.vfm_record.specs.Writing.{IsWritable, LendsBytes};
 
 /// No two records have one spelling.
-pub fn one_spelling()
-    ensures { (r s : Record) → Fits r → Fits s → spelling r ≡ spelling s → r ≡ s }
+pub fn one_encoding()
+    ensures { (r s : Record) → Fits r → Fits s → record_bytes r ≡ record_bytes s → r ≡ s }
 {}
 
 /// Reading what a record of the stream is written as gives the record.
 pub fn written_is_read()
-    ensures passes { (D : Desc) (stream : ℕ) (r : Record) → IsRecordOf D stream r → record_fault D stream (spelling r) ≡ None }
-    ensures same { (D : Desc) (stream : ℕ) (r : Record) → IsRecordOf D stream r → record_at stream (spelling r) ≡ r }
+    ensures passes { (D : Desc) (stream : ℕ) (r : Record) → IsRecordOf D stream r → record_fault D stream (record_bytes r) ≡ None }
+    ensures same { (D : Desc) (stream : ℕ) (r : Record) → IsRecordOf D stream r → record_at stream (record_bytes r) ≡ r }
 {}
 
 /// Writing what was read gives the bytes, and what was read is a record of the stream.
@@ -26,14 +26,14 @@ pub fn read_is_written()
     ensures record_of_stream { (D : Desc) (stream : ℕ) (bytes : List ℕ) → IsBytes bytes → record_fault D stream bytes ≡ None
         → IsRecordOf D stream (record_at stream bytes) }
     ensures same { (D : Desc) (stream : ℕ) (bytes : List ℕ) → IsBytes bytes → record_fault D stream bytes ≡ None
-        → spelling (record_at stream bytes) ≡ bytes }
+        → record_bytes (record_at stream bytes) ≡ bytes }
 {}
 
 /// How long a record is: never empty, and never longer than a payload may be.
 pub fn size_of_a_record()
-    ensures size { (r : Record) → length (spelling r) ≡ record_size r }
+    ensures size { (r : Record) → length (record_bytes r) ≡ record_size r }
     ensures payload { (D : Desc) (stream : ℕ) (r : Record) → IsValid D → IsRecordOf D stream r
-        → (1 ≤ length (spelling r)) × (length (spelling r) ≤ 65536) }
+        → (1 ≤ length (record_bytes r)) × (length (record_bytes r) ≤ 65536) }
 {}
 
 /// What can be written is exactly what some stream of some machine can have. So what was read can be written.

@@ -15,12 +15,12 @@ mod tag;
 mod writer;
 
 pub use laws::{
-    one_spelling, read_is_written, size_of_a_record, what_can_be_written, written_is_read,
+    one_encoding, read_is_written, size_of_a_record, what_can_be_written, written_is_read,
 };
 pub use reader::{pending_at, read};
 pub use record::{Rec, RecordFault};
 pub use shape::shape_digest;
-pub use writer::{spelled_len, write, write_pending};
+pub use writer::{encoded_len, write, write_pending};
 
 #[cfg(test)]
 mod tests;

@@ -4,12 +4,14 @@ ghost use Rattle.std.specs.Prelude.{◌≡◌, ℕ, ◌+◌, ◌*◌, ◌≤◌,
 ghost use Rattle.std.specs.Int.{w16, w32, w64};
 ghost use Rattle.vfm_types.specs.Desc.{device_count};
 ghost use Rattle.vfm_record.specs.declared.tag.Tag.TheVariants as tags;
-ghost use Rattle.vfm_record.specs.Words.{word_at};
-ghost use Rattle.vfm_record.specs.Record.{Record, spelling, pairs_of, record_of, IsWhole, IsRecordOf};
-ghost use Rattle.vfm_record.specs.Tests.{tag_at, count_of, keeps_bell, page_tests, block_tests, engine_tests, pending_tests, config_tests, first_failed, record_with, record_at, record_fault, Answers};
+ghost use Rattle.vfm_base.specs.Words.{word_at};
+ghost use Rattle.vfm_record.specs.Record.{Record, record_bytes, pairs_of, record_of, IsWhole, IsRecordOf};
+ghost use Rattle.vfm_record.specs.Tests.{tag_at, count_of, keeps_bell, page_tests, block_tests, engine_tests, pending_tests, config_tests, record_with, record_at, record_fault, AgreesWith};
+ghost use Rattle.vfm_base.specs.Tests.{first_failed};
 
 use crate::record::{Rec, RecordFault};
 use crate::tag::Tag;
+use vfm_base::{u16_at, u32_at, u64_at};
 use vfm_types::{Desc, DevShape};
 
 /// How many bytes a block has.
@@ -36,34 +38,6 @@ const LOST_PLACE: u32 = 9;
 
 const COUNT_PLACE: u32 = 1;
 
-// The number at a place, its highest byte first.
-#[tactic(auto, unfolding(crate::specs::Words::word_at))]
-fn u16_at(bytes: &[u8], place: usize) -> u16
-    requires { place + 2 ≤ length bytes.now }
-    ensures { result ≡ word_at w16 place bytes.now }
-{
-    let b = &bytes[place..place + 2];
-    u16::from_be_bytes([b[0], b[1]])
-}
-
-#[tactic(auto, unfolding(crate::specs::Words::word_at))]
-fn u32_at(bytes: &[u8], place: usize) -> u32
-    requires { place + 4 ≤ length bytes.now }
-    ensures { result ≡ word_at w32 place bytes.now }
-{
-    let b = &bytes[place..place + 4];
-    u32::from_be_bytes([b[0], b[1], b[2], b[3]])
-}
-
-#[tactic(auto, unfolding(crate::specs::Words::word_at))]
-fn u64_at(bytes: &[u8], place: usize) -> u64
-    requires { place + 8 ≤ length bytes.now }
-    ensures { result ≡ word_at w64 place bytes.now }
-{
-    let b = &bytes[place..place + 8];
-    u64::from_be_bytes([b[0], b[1], b[2], b[3], b[4], b[5], b[6], b[7]])
-}
-
 // The refusal at a place.
 fn refused<'a>(place: u32) -> Result<Rec<'a>, RecordFault>
     ensures { result ≡ Err (record { place = place }) }
@@ -74,7 +48,7 @@ fn refused<'a>(place: u32) -> Result<Rec<'a>, RecordFault>
 #[tactic(auto, unfolding(crate::specs::Tests::page_tests))]
 fn read_page<'a>(desc: &Desc, bytes: &'a [u8]) -> Result<Rec<'a>, RecordFault>
     requires { length bytes.now < 2 ^ 32 }
-    ensures { Answers result (first_failed (page_tests desc.now bytes.now)) (record_with tags.Page bytes.now) }
+    ensures { AgreesWith result (first_failed (page_tests desc.now bytes.now)) (record_with tags.Page bytes.now) }
 {
     if bytes.len() != 5 + desc.page as usize {
         return refused(bytes.len() as u32);
@@ -100,7 +74,7 @@ fn keeps_bell(b: u32, bytes: &[u8]) -> bool
 #[tactic(auto, unfolding(crate::specs::Tests::block_tests))]
 fn read_block<'a>(shape: &DevShape, bytes: &'a [u8]) -> Result<Rec<'a>, RecordFault>
     requires { length bytes.now < 2 ^ 32 }
-    ensures { Answers result (first_failed (block_tests shape.now bytes.now)) (record_with tags.Block bytes.now) }
+    ensures { AgreesWith result (first_failed (block_tests shape.now bytes.now)) (record_with tags.Block bytes.now) }
 {
     if bytes.len() != 69 {
         return refused(bytes.len() as u32);
@@ -121,7 +95,7 @@ fn read_block<'a>(shape: &DevShape, bytes: &'a [u8]) -> Result<Rec<'a>, RecordFa
 #[tactic(auto, unfolding(crate::specs::Tests::engine_tests))]
 fn read_engine<'a>(shape: &DevShape, bytes: &'a [u8]) -> Result<Rec<'a>, RecordFault>
     requires { length bytes.now < 2 ^ 32 }
-    ensures { Answers result (first_failed (engine_tests shape.now bytes.now)) (record_with tags.Engine bytes.now) }
+    ensures { AgreesWith result (first_failed (engine_tests shape.now bytes.now)) (record_with tags.Engine bytes.now) }
 {
     if bytes.len() != 81 {
         return refused(bytes.len() as u32);
@@ -151,7 +125,7 @@ fn read_engine<'a>(shape: &DevShape, bytes: &'a [u8]) -> Result<Rec<'a>, RecordF
 #[tactic(auto, unfolding(crate::specs::Tests::pending_tests))]
 fn read_pending<'a>(bytes: &'a [u8]) -> Result<Rec<'a>, RecordFault>
     requires { length bytes.now < 2 ^ 32 }
-    ensures { Answers result (first_failed (pending_tests bytes.now)) (record_with tags.Pending bytes.now) }
+    ensures { AgreesWith result (first_failed (pending_tests bytes.now)) (record_with tags.Pending bytes.now) }
 {
     if bytes.len() < 3 {
         return refused(bytes.len() as u32);
@@ -172,7 +146,7 @@ fn read_pending<'a>(bytes: &'a [u8]) -> Result<Rec<'a>, RecordFault>
 #[tactic(auto, unfolding(crate::specs::Tests::config_tests))]
 fn read_config<'a>(bytes: &'a [u8]) -> Result<Rec<'a>, RecordFault>
     requires { length bytes.now < 2 ^ 32 }
-    ensures { Answers result (first_failed (config_tests bytes.now)) (record_with tags.Config bytes.now) }
+    ensures { AgreesWith result (first_failed (config_tests bytes.now)) (record_with tags.Config bytes.now) }
 {
     if bytes.len() != 33 {
         return refused(bytes.len() as u32);
@@ -197,7 +171,7 @@ fn tag_at(stream: u32, bytes: &[u8]) -> Option<Tag>
 fn tested<'a>(desc: &Desc, stream: u32, bytes: &'a [u8]) -> Result<Rec<'a>, RecordFault>
     requires known { stream ≤ device_count desc.now }
     requires short { length bytes.now < 2 ^ 32 }
-    ensures { Answers result (record_fault desc.now stream bytes.now) (record_at stream bytes.now) }
+    ensures { AgreesWith result (record_fault desc.now stream bytes.now) (record_at stream bytes.now) }
 {
     match tag_at(stream, bytes) {
         None => refused(TAG_PLACE),
@@ -220,10 +194,10 @@ pub fn read<'a>(desc: &Desc, stream: u32, bytes: &'a [u8]) -> Result<Rec<'a>, Re
         (λ _. record_fault desc.now stream bytes.now ≡ None)
         (λ fault. record_fault desc.now stream bytes.now ≡ Some fault.place) }
     // What is given is a record of the stream, and the bytes are its spelling.
-    ensures found { IfOk result (λ r. IsRecordOf desc.now stream (record_of r) × (bytes.now ≡ spelling (record_of r))) }
+    ensures found { IfOk result (λ r. IsRecordOf desc.now stream (record_of r) × (bytes.now ≡ record_bytes (record_of r))) }
     ensures whole { IfOk result IsWhole }
     // What is spelled so is given.
-    ensures only { (r : Record) → IsRecordOf desc.now stream r → bytes.now ≡ spelling r
+    ensures only { (r : Record) → IsRecordOf desc.now stream r → bytes.now ≡ record_bytes r
         → IsOk result × IfOk result (λ given. record_of given ≡ r) }
 {
     tested(desc, stream, bytes)

@@ -5,7 +5,7 @@ ghost use Rattle.std.specs.List.{flat_map};
 ghost use Rattle.hex.specs.Hex.{encode_lower};
 ghost use Rattle.vfm_types.specs.Desc.{device_count};
 ghost use Rattle.vfm_record.specs.Hashing.{TookIn};
-ghost use Rattle.vfm_record.specs.Shape.{word, number, line_end, memory_line, bar_word, tells_number, device_line, job_line, device_text, shape_text, shape_digest};
+ghost use Rattle.vfm_record.specs.Shape.{word, number, line_end, memory_line, bars_word, sizes_word, plus, tells_number, device_line, job_line, device_shape_text, shape_text, shape_digest};
 
 use itoa::Buffer;
 use sha2::{Digest, Sha256};
@@ -65,11 +65,31 @@ fn put_memory(hasher: &mut Sha256, desc: &Desc)
     end_line(hasher);
 }
 
-// Takes in the word of the BAR behind another.
-fn put_bar(hasher: &mut Sha256, shape: &DevShape)
-    ensures { TookIn hasher.old hasher.new (word (bar_word shape.now)) }
+// Takes in one more size of a word of several.
+fn put_plus(hasher: &mut Sha256, size: u32)
+    ensures { TookIn hasher.old hasher.new (plus size) }
 {
-    put_number(hasher, u64::from(shape.bar_bytes()));
+    let mut digits = Buffer::new();
+    put(hasher, b"+");
+    put(hasher, digits.format(size).as_bytes());
+}
+
+// Takes in more sizes of a word of several.
+fn put_more(hasher: &mut Sha256, sizes: &[u32])
+    ensures { TookIn hasher.old hasher.new (flat_map plus sizes.now) }
+{
+    for size in sizes {
+        put_plus(hasher, *size);
+    }
+}
+
+// Takes in the word of the BARs after another: their sizes, joined by plus signs.
+fn put_bars(hasher: &mut Sha256, sizes: &[u32])
+    requires { 1 ≤ length sizes.now }
+    ensures { TookIn hasher.old hasher.new (word (sizes_word sizes.now)) }
+{
+    put_number(hasher, u64::from(sizes[0]));
+    put_more(hasher, &sizes[1..]);
 }
 
 // 1 for yes, 0 for no.
@@ -87,7 +107,7 @@ fn put_device(hasher: &mut Sha256, shape: &DevShape)
     put(hasher, b"device");
     put_word(hasher, shape.name.bytes());
     put_number(hasher, u64::from(shape.flags.bits()));
-    put_bar(hasher, shape);
+    put_bars(hasher, shape.bars.as_slice());
     put_number(hasher, u64::from(shape.window));
     put_number(hasher, tells_number(shape.tells));
     put_number(hasher, u64::from(shape.budget));

@@ -340,11 +340,11 @@ fn worked_records_are_written_and_read(rt: HostRuntime) -> Result<(), Fail> {
     write(&pending, &mut out)?;
     write(&config, &mut out)?;
     let ends = [
-        spelled_len(&page),
-        spelled_len(&block),
-        spelled_len(&engine),
-        spelled_len(&pending),
-        spelled_len(&config),
+        encoded_len(&page),
+        encoded_len(&block),
+        encoded_len(&engine),
+        encoded_len(&pending),
+        encoded_len(&config),
     ];
     assert_eq!(rt; ends, [21, 69, 81, 19, 33]);
     assert_eq!(rt; out.len(), 223);
@@ -418,7 +418,7 @@ fn worked_digests(rt: HostRuntime) -> Result<(), Fail> {
 // The laws hold of every value; calling them does nothing.
 #[test]
 fn laws() {
-    one_spelling();
+    one_encoding();
     written_is_read();
     read_is_written();
     size_of_a_record();

@@ -3,8 +3,8 @@
 ghost use Rattle.std.specs.Prelude.{◌≡◌, ◌+◌, ◌*◌, ◌<◌, ◌≤◌, ◌^◌, ◌∷◌, ◌++◌, length, vec_len, vec_capacity, OnOk, OnErr};
 ghost use Rattle.std.specs.List.{flat_map};
 ghost use Rattle.std.specs.Int.{w16, w32, to_be_bytes};
-ghost use Rattle.vfm_record.specs.Words.{IsBytes};
-ghost use Rattle.vfm_record.specs.Record.{Pending, spelling, pair_bytes, record_of};
+ghost use Rattle.vfm_base.specs.Words.{IsBytes};
+ghost use Rattle.vfm_record.specs.Record.{Pending, record_bytes, pair_bytes, record_of};
 ghost use Rattle.vfm_record.specs.Writing.{IsWritable};
 
 use crate::record::Rec;
@@ -58,9 +58,9 @@ fn engine_head(accepted: u32, done: u32, lost: u32, pend: u32) -> [u8; 17]
 /// is enough for the spelling.
 pub fn write(r: &Rec, out: &mut Vec<u8>) -> Result<(), NoMemory>
     requires { IsWritable r.now }
-    ensures ok { OnOk result (out.new.items ≡ out.old.items ++ spelling (record_of r.now)) }
+    ensures ok { OnOk result (out.new.items ≡ out.old.items ++ record_bytes (record_of r.now)) }
     ensures err { OnErr result (out.new.items ≡ out.old.items) }
-    ensures full { OnErr result (vec_capacity out.old < vec_len out.old + length (spelling (record_of r.now))) }
+    ensures full { OnErr result (vec_capacity out.old < vec_len out.old + length (record_bytes (record_of r.now))) }
 {
     match *r {
         Rec::Page { p, bytes } => put(out, &numbered_head(1, p), bytes),
@@ -78,9 +78,9 @@ pub fn write(r: &Rec, out: &mut Vec<u8>) -> Result<(), NoMemory>
 }
 
 /// How many bytes the spelling of a record has: what `write` appends.
-pub fn spelled_len(r: &Rec) -> u32
+pub fn encoded_len(r: &Rec) -> u32
     requires { IsWritable r.now }
-    ensures value { result ≡ length (spelling (record_of r.now)) }
+    ensures value { result ≡ length (record_bytes (record_of r.now)) }
     ensures payload { result ≤ 65536 }
 {
     match *r {
@@ -129,9 +129,9 @@ fn fill_pairs(out: &mut Vec<u8>, pairs: &[(u32, u32)])
 pub fn write_pending(pairs: &[(u32, u32)], out: &mut Vec<u8>) -> Result<(), NoMemory>
     requires some { 1 ≤ length pairs.now }
     requires few { length pairs.now ≤ 4096 }
-    ensures ok { OnOk result (out.new.items ≡ out.old.items ++ spelling (Pending pairs.now)) }
+    ensures ok { OnOk result (out.new.items ≡ out.old.items ++ record_bytes (Pending pairs.now)) }
     ensures err { OnErr result (out.new.items ≡ out.old.items) }
-    ensures full { OnErr result (vec_capacity out.old < vec_len out.old + length (spelling (Pending pairs.now))) }
+    ensures full { OnErr result (vec_capacity out.old < vec_len out.old + length (record_bytes (Pending pairs.now))) }
 {
     out.reserve(3 + 8 * pairs.len())?;
     fill(out, &pending_head(pairs.len() as u16));

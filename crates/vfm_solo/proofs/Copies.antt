@@ -10,7 +10,7 @@ use Rattle.vfm_types.specs.declared.entry.Entry.{Entry}
 use Rattle.vfm_types.specs.declared.entry.Entry.TheVariants.{Pass, Copy, Block, Joint, Resume, Arc}
 use Rattle.vfm_types.specs.declared.entry.Rule.TheVariants.{Order, Pages, Blocks, Joint as Standing, Decide}
 use Rattle.vfm_types.specs.Paths.{same_state}
-use Rattle.vfm_types.specs.Least.{all_below, least_below}
+use Rattle.vfm_base.specs.Least.{all_below, least_below}
 use Rattle.vfm_types.specs.Phases.{is_joint, is_last_begun, is_on}
 use Rattle.vfm_types.specs.Arcs.{state_of}
 use Rattle.vfm_types.specs.Outstanding.{Outstanding, outstanding_of}
@@ -20,8 +20,12 @@ use Rattle.vfm_plain.specs.Ended.{has_ended, is_last_ended}
 use Rattle.vfm_solo.specs.declared.engine.Flight.TheVariants.{Empty}
 use Rattle.vfm_solo.proofs.Moves.{joint_follows, joint_unpassed}
 use Rattle.vfm_types.specs.Marks.{is_in_set, is_copied, next_copy}
-use Rattle.vfm_types.specs.Blocks.{is_unread, is_dirty, next_block, blocks_read, was_dry, has_part, next_part, is_pass_ended}
-use Rattle.vfm_plain.specs.Rules.{fault_of, is_the, is_next_pass, is_pass_wanted, is_copy_due, is_part_due}
+use Rattle.vfm_types.specs.Blocks.{is_unread, is_dirty, next_block, blocks_read, was_dry, has_part, next_part, is_no_pass_open}
+use Rattle.vfm_plain.specs.Rules.{fault_of}
+use Rattle.vfm_plain.specs.Condition.{is_exactly}
+use Rattle.vfm_plain.specs.PassRules.{is_next_pass, is_pass_wanted}
+use Rattle.vfm_plain.specs.CopyRules.{is_copy_due}
+use Rattle.vfm_plain.specs.BlockRules.{is_part_due}
 use Rattle.vfm_solo.specs.declared.engine.Engine.{Engine}
 use Rattle.vfm_solo.specs.Solo.{IsSolo}
 use Rattle.vfm_solo.specs.Follows.{Stage, Follows, Unpassed, Copied, InPass, on_bus, waiting_stage, readable, joined, taken_over, halted, home}
@@ -38,7 +42,7 @@ part_of D past b solo is =
     ap (λ (n : ℕ). least_below n (λ d. has_part D d past)) solo.count ∙ ap (λ (v : Bool). if v then Some 0 else None) is
 
 -- before the first pass none is under way
-ended_before : (D : Desc) (past : List Entry) → IsSolo D → Unpassed D past → is_pass_ended D past ≡ true
+ended_before : (D : Desc) (past : List Entry) → IsSolo D → Unpassed D past → is_no_pass_open D past ≡ true
 ended_before D past solo u =
     let copy : next_copy D past ≡ None =
     least_none D.pages (λ p. is_in_set D p past && not (is_copied p past)) (λ p. ap (λ (b : Bool). b && not (is_copied p past)) (u.none p)) in
@@ -63,7 +67,7 @@ pass_follows D past e f solo h u plain flight =
   where
     next : is_next_pass D 1 past ≡ true
     next =
-        ap (λ (n : ℕ). 1 == n + 1 && is_pass_ended D past && true) u.passes
+        ap (λ (n : ℕ). 1 == n + 1 && is_no_pass_open D past && true) u.passes
         ∙ ap (λ (b : Bool). b && true) (ended_before D past solo u)
 
     wanted : is_pass_wanted D 1 past ≡ true
@@ -112,7 +116,7 @@ copy_follows D past e f p solo within h k plain flight =
         test p ∙ ap (λ (b : Bool). b && not (nat_lt p p)) (lt-ltb p D.pages within) ∙ ap not (le-ltb p p (omega arith))
 
     due : is_copy_due D p past ≡ true
-    due = ap (is_the p) (least_some D.pages (λ q. is_in_set D q past && not (is_copied q past)) p within before here) ∙ itself p
+    due = ap (is_exactly p) (least_some D.pages (λ q. is_in_set D q past && not (is_copied q past)) p within before here) ∙ itself p
 
     fault : fault_of D past (Copy p) ≡ None
     fault = holds (is_on past) Order ((is_copy_due D p past, Pages) ∷ []) (on_joined D past e h) (holds (is_copy_due D p past) Pages [] due refl)
@@ -169,16 +173,16 @@ block_follows D past e f b solo within h k plain flight =
         least_some (block_count (shape_at D 0)) (λ c. is_unread 0 c past) b within
         (λ c low. k.unread c ∙ ap not (lt-ltb c b low)) (k.unread b ∙ ap not (le-ltb b b (omega arith)))
 
-    due : (is_part_due D 0 past && is_the b (next_block D 0 past)) ≡ true
+    due : (is_part_due D 0 past && is_exactly b (next_block D 0 past)) ≡ true
     due =
-        ap (λ (o : Option ℕ). is_none o && is_the 0 (next_part D past) && is_the b (next_block D 0 past)) (none_to_copy D past b k)
-        ∙ ap (λ (o : Option ℕ). is_the 0 o && is_the b (next_block D 0 past)) part
-        ∙ ap (λ (o : Option ℕ). is_the b (option_or o (least_below (block_count (shape_at D 0)) (λ c. is_dirty D 0 c past)))) least
+        ap (λ (o : Option ℕ). is_none o && is_exactly 0 (next_part D past) && is_exactly b (next_block D 0 past)) (none_to_copy D past b k)
+        ∙ ap (λ (o : Option ℕ). is_exactly 0 o && is_exactly b (next_block D 0 past)) part
+        ∙ ap (λ (o : Option ℕ). is_exactly b (option_or o (least_below (block_count (shape_at D 0)) (λ c. is_dirty D 0 c past)))) least
         ∙ itself b
 
     fault : fault_of D past (Block 0 b) ≡ None
-    fault = holds (is_on past) Order ((is_part_due D 0 past && is_the b (next_block D 0 past), Blocks) ∷ []) (on_joined D past e h)
-        (holds (is_part_due D 0 past && is_the b (next_block D 0 past)) Blocks [] due refl)
+    fault = holds (is_on past) Order ((is_part_due D 0 past && is_exactly b (next_block D 0 past), Blocks) ∷ []) (on_joined D past e h)
+        (holds (is_part_due D 0 past && is_exactly b (next_block D 0 past)) Blocks [] due refl)
 
 pub block_copied : (D : Desc) (past : List Entry) (p b : ℕ) → Copied D past p b → Copied D (Block 0 b ∷ past) p (b + 1)
 block_copied D past p b k =
@@ -194,7 +198,7 @@ block_copied D past p b k =
     }
 
 -- the last pass has ended
-pub last_ended : (D : Desc) (past : List Entry) → IsSolo D → Copied D past D.pages (block_count (shape_at D 0)) → is_pass_ended D past ≡ true
+pub last_ended : (D : Desc) (past : List Entry) → IsSolo D → Copied D past D.pages (block_count (shape_at D 0)) → is_no_pass_open D past ≡ true
 last_ended D past solo k =
     let part : next_part D past ≡ None =
     part_of D past false solo (part_left D past D.pages (block_count (shape_at D 0)) k ∙ le-ltb (block_count (shape_at D 0)) (block_count (shape_at D 0)) (omega arith)) in
@@ -215,14 +219,14 @@ resume_follows D past e f solo h k plain flight =
       machine = h.machine ∙ sym plain;
     }
   where
-    whole : (is_joint past && is_last_begun past && is_pass_ended D past) ≡ true
+    whole : (is_joint past && is_last_begun past && is_no_pass_open D past) ≡ true
     whole =
-        ap (λ (b : Bool). b && is_last_begun past && is_pass_ended D past) h.joint
-        ∙ ap (λ (b : Bool). b && is_pass_ended D past) k.last ∙ last_ended D past solo k
+        ap (λ (b : Bool). b && is_last_begun past && is_no_pass_open D past) h.joint
+        ∙ ap (λ (b : Bool). b && is_no_pass_open D past) k.last ∙ last_ended D past solo k
 
     fault : fault_of D past Resume ≡ None
-    fault = holds (is_on past) Order ((is_joint past && is_last_begun past && is_pass_ended D past, Standing) ∷ []) (on_joined D past e h)
-        (holds (is_joint past && is_last_begun past && is_pass_ended D past) Standing [] whole refl)
+    fault = holds (is_on past) Order ((is_joint past && is_last_begun past && is_no_pass_open D past, Standing) ∷ []) (on_joined D past e h)
+        (holds (is_joint past && is_last_begun past && is_no_pass_open D past) Standing [] whole refl)
 
 pub halt_follows : (D : Desc) (past : List Entry) (e f : Engine) → IsSolo D → Follows D past taken_over e → f.plain ≡ e.plain → f.flight ≡ e.flight → Follows D (Arc 0 Stop ∷ past) halted f
 halt_follows D past e f solo h plain flight =
@@ -323,8 +327,8 @@ home_ended D past e solo h empty none =
 -- the last pass has ended
 pub pass_over : (D : Desc) (past : List Entry) (e : Engine) → IsSolo D → InPass D past D.pages (block_count (shape_at D 0)) e → is_last_ended D past ≡ true
 pass_over D past e solo i =
-    ap (λ (b : Bool). b && is_last_begun past && is_pass_ended D past) i.follows.joint
-    ∙ ap (λ (b : Bool). b && is_pass_ended D past) i.copied.last ∙ last_ended D past solo i.copied
+    ap (λ (b : Bool). b && is_last_begun past && is_no_pass_open D past) i.follows.joint
+    ∙ ap (λ (b : Bool). b && is_no_pass_open D past) i.copied.last ∙ last_ended D past solo i.copied
 
 -- before everything
 pub start_follows : (D : Desc) (e : Engine) → e.plain ≡ described D → e.flight ≡ Empty → Follows D [] waiting_stage e

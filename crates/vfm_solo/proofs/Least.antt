@@ -1,7 +1,7 @@
 -- The least number that passes a test.
 use Rattle.std.proofs.Common.{◌≡◌, ℕ, zero, suc, ◌+◌, ◌<◌, ◌≤◌, ◌==◌, ◌&&◌, ◌||◌, not, Bool, true, false, nat_lt, if◌then◌else◌, Option, Some, None, ⊎_elim, refl, ap, ◌∙◌, arith}
 use Rattle.std.proofs.lemmas.Bool.{cases_eq, le-ltb}
-use Rattle.vfm_types.specs.Least.{least_from, least_below}
+use Rattle.vfm_base.specs.Least.{least_from, least_below}
 
 pub least_from_none : (i n : ℕ) (test : ℕ → Bool) → ((q : ℕ) → test q ≡ false) → least_from i n test ≡ None
 least_from_none i zero test fails = refl

@@ -8,12 +8,13 @@ use Rattle.vfm_types.specs.declared.state.MigState.TheVariants.{Stop, StopCopy}
 use Rattle.vfm_types.specs.declared.entry.Entry.{Entry}
 use Rattle.vfm_types.specs.declared.entry.Entry.TheVariants.{Hold, Arc, Begin, Joint}
 use Rattle.vfm_types.specs.Machine.{DeviceState, Machine, device_of}
-use Rattle.vfm_types.specs.Least.{all_below}
+use Rattle.vfm_base.specs.Least.{all_below}
 use Rattle.vfm_types.specs.Arcs.{arc_count}
 use Rattle.vfm_types.specs.Outstanding.{Outstanding, outstanding_of, issue_count, complete_count}
 use Rattle.vfm_types.specs.Words.{is_idle, is_nothing}
 use Rattle.vfm_types.specs.Valid.{IsValid}
-use Rattle.vfm_plain.specs.Rules.{fault_of, may_begin}
+use Rattle.vfm_plain.specs.Rules.{fault_of}
+use Rattle.vfm_plain.specs.BeginRules.{may_begin_move}
 use Rattle.vfm_laws.specs.Queues.{waiting}
 use Rattle.vfm_laws.proofs.Counts.{issued_completed, issued_done}
 use Rattle.vfm_solo.specs.declared.engine.Flight.{Flight}
@@ -40,7 +41,7 @@ completed_is D past stage e valid solo h =
 
 -- the move may begin
 begin_met : (D : Desc) (past : List Entry) (stage : Stage) (e : Engine) → IsValid D → IsSolo D → Follows D past stage e
-    → (D.begin ≤ completed_of e) ⊎ ((e.flight ≡ Empty) × ((device_of e.plain 0).pending ≡ [])) → may_begin D past ≡ true
+    → (D.begin ≤ completed_of e) ⊎ ((e.flight ≡ Empty) × ((device_of e.plain 0).pending ≡ [])) → may_begin_move D past ≡ true
 begin_met D past stage e valid solo h may =
     ap (λ (n : ℕ). all_below n (λ d. nat_le D.begin (complete_count d past) || is_idle D d past)) solo.count ∙ one may
   where

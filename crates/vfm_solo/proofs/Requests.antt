@@ -13,22 +13,25 @@ use Rattle.vfm_types.specs.Valid.{IsValid}
 use Rattle.vfm_laws.specs.Queues.{device_after, waiting}
 use Rattle.vfm_laws.proofs.Counts.{issued_done}
 use Rattle.vfm_types.specs.Machine.{Machine, device_of}
-use Rattle.vfm_types.specs.Requests.{fences, job_of, job_number, do_request}
+use Rattle.vfm_types.specs.Requests.{fences, job_of, job_or_zero, do_request}
 use Rattle.vfm_types.specs.Deliveries.{machine_of}
 use Rattle.vfm_types.specs.Phases.{is_begun, is_aborted, is_resumed}
 use Rattle.vfm_types.specs.declared.state.MigState.{MigState}
-use Rattle.vfm_types.specs.Arcs.{state_of, is_running, is_p2p, level_of}
+use Rattle.vfm_types.specs.Arcs.{state_of, is_running, is_p2p, effective_state}
 use Rattle.vfm_types.specs.Blocks.{is_dirty, writes_block}
 use Rattle.vfm_types.specs.Outstanding.{Outstanding, outstanding_of, is_undelivered, is_arrived, unissued, issue_count, deliver_if, complete_if}
 use Rattle.vfm_types.specs.Words.{is_nothing, has_fence, is_barred}
-use Rattle.vfm_plain.specs.Rules.{Condition, first_broken, fault_of, is_the, first_number, has_turn, may_go, may_start}
+use Rattle.vfm_base.specs.Tests.{first_failed}
+use Rattle.vfm_plain.specs.Condition.{Condition, is_exactly}
+use Rattle.vfm_plain.specs.Rules.{fault_of}
+use Rattle.vfm_plain.specs.IssueRules.{first_number, is_next_to_issue, is_request_allowed, may_issue_yet}
 use Rattle.vfm_solo.specs.declared.engine.Flight.TheVariants.{Empty, Sent, Arrived}
 use Rattle.vfm_solo.specs.declared.engine.Engine.{Engine}
 use Rattle.vfm_solo.specs.Solo.{IsSolo}
 use Rattle.vfm_solo.specs.Follows.{Stage, Follows, Unpassed, InPass, on_bus, past_of}
 
 -- one condition that holds, before others
-pub holds : (test : Bool) (rule : Rule) (others : List Condition) → test ≡ true → first_broken others ≡ None → first_broken ((test, rule) ∷ others) ≡ None
+pub holds : (test : Bool) (rule : Rule) (others : List Condition) → test ≡ true → first_failed others ≡ None → first_failed ((test, rule) ∷ others) ≡ None
 holds test rule others is rest = rw is rest
 
 -- a number is itself
@@ -41,8 +44,8 @@ or_true b = elim b as (λ v. (v || true) ≡ true) [ true ↦ refl | false ↦ r
 
 -- the first pending request has its turn where nothing is on the bus
 turn_of : (D : Desc) (n j : ℕ) (rest : List (ℕ × ℕ)) → (shape_at D 0).window ≡ 1
-    → (is_the n (first_number (unissued [] ((n, j) ∷ rest))) && nat_lt (length {A = Outstanding} []) (shape_at D 0).window && not (has_fence D 0 [])
-    && (not (fences D 0 (job_number n ((n, j) ∷ rest))) || is_nothing {X = Outstanding} [])) ≡ true
+    → (is_exactly n (first_number (unissued [] ((n, j) ∷ rest))) && nat_lt (length {A = Outstanding} []) (shape_at D 0).window && not (has_fence D 0 [])
+    && (not (fences D 0 (job_or_zero n ((n, j) ∷ rest))) || is_nothing {X = Outstanding} [])) ≡ true
 turn_of D n j rest window = rw (itself n, window, or_true (not (fences D 0 j))) refl
 
 -- the first of a list
@@ -51,12 +54,12 @@ first_of_pending [] r is = absurd (cc)
 first_of_pending (q ∷ pending) r is = (pending, ap (λ (x : ℕ × ℕ). x ∷ pending) (let e : q ≡ r = cc in e))
 
 pub has_turn_first : (D : Desc) (past : List Entry) (n j : ℕ) → (shape_at D 0).window ≡ 1 → outstanding_of D 0 past ≡ []
-    → slice_get (device_of (machine_of D past) 0).pending 0 ≡ Some (n, j) → has_turn D 0 n past ≡ true
+    → slice_get (device_of (machine_of D past) 0).pending 0 ≡ Some (n, j) → is_next_to_issue D 0 n past ≡ true
 has_turn_first D past n j window none first =
     let list = first_of_pending (device_of (machine_of D past) 0).pending (n, j) first in
     let test : List Outstanding → List (ℕ × ℕ) → Bool = λ requests pending.
-    is_the n (first_number (unissued requests pending)) && nat_lt (length requests) (shape_at D 0).window && not (has_fence D 0 requests)
-    && (not (fences D 0 (job_number n pending)) || is_nothing requests) in
+    is_exactly n (first_number (unissued requests pending)) && nat_lt (length requests) (shape_at D 0).window && not (has_fence D 0 requests)
+    && (not (fences D 0 (job_or_zero n pending)) || is_nothing requests) in
     ap (λ (requests : List Outstanding). test requests (device_of (machine_of D past) 0).pending) none
     ∙ ap (λ (pending : List (ℕ × ℕ)). test [] pending) list.1 ∙ turn_of D n j list.0 window
 
@@ -84,16 +87,16 @@ issue_fault D past stage e n j valid solo follows empty first runs may =
     let none : outstanding_of D 0 past ≡ [] = follows.bus ∙ ap on_bus empty in
     let pending : slice_get (device_of (machine_of D past) 0).pending 0 ≡ Some (n, j) =
     ap (λ (m : Machine). slice_get (device_of m 0).pending 0) follows.machine ∙ first in
-    let level : is_running (level_of 0 past) ≡ true =
+    let level : is_running (effective_state 0 past) ≡ true =
     ap (λ (hold : Option MigState). is_running (unwrap_or hold (state_of 0 past))) follows.hold
     ∙ ap (λ (state : MigState). is_running (unwrap_or stage.hold state)) follows.state ∙ runs in
-    let go : may_go D 0 n past ≡ true =
-    ap (λ (b : Bool). b || (is_p2p (level_of 0 past) && not (is_barred D 0 (job_at D 0 (job_number n (device_of (machine_of D past) 0).pending))))) level in
-    let started : may_start D 0 past ≡ true = start may in
-    holds (has_turn D 0 n past) Turn ((may_go D 0 n past, Barred) ∷ (may_start D 0 past, Start) ∷ []) (has_turn_first D past n j solo.window none pending)
-    (holds (may_go D 0 n past) Barred ((may_start D 0 past, Start) ∷ []) go (holds (may_start D 0 past) Start [] started refl))
+    let go : is_request_allowed D 0 n past ≡ true =
+    ap (λ (b : Bool). b || (is_p2p (effective_state 0 past) && not (is_barred D 0 (job_at D 0 (job_or_zero n (device_of (machine_of D past) 0).pending))))) level in
+    let started : may_issue_yet D 0 past ≡ true = start may in
+    holds (is_next_to_issue D 0 n past) Turn ((is_request_allowed D 0 n past, Barred) ∷ (may_issue_yet D 0 past, Start) ∷ []) (has_turn_first D past n j solo.window none pending)
+    (holds (is_request_allowed D 0 n past) Barred ((may_issue_yet D 0 past, Start) ∷ []) go (holds (may_issue_yet D 0 past) Start [] started refl))
   where
-    start : (stage.begun ≡ true) ⊎ ((device_of e.plain 0).done < D.begin) → may_start D 0 past ≡ true
+    start : (stage.begun ≡ true) ⊎ ((device_of e.plain 0).done < D.begin) → may_issue_yet D 0 past ≡ true
     start (inl begun) = ap (λ (b : Bool). b || is_aborted past || is_resumed past || nat_lt (issue_count 0 past) D.begin) (follows.begun ∙ begun)
     start (inr early) =
         let few : nat_lt (issue_count 0 past) D.begin ≡ true = lt-ltb _ _ (omega (arith, issued_none D past stage e valid solo follows empty)) in
@@ -108,8 +111,8 @@ issue_follows D past stage e f n j valid solo follows empty first runs may plain
     let pending : slice_get (device_of (machine_of D past) 0).pending 0 ≡ Some (n, j) =
     ap (λ (m : Machine). slice_get (device_of m 0).pending 0) follows.machine ∙ first in
     let list = first_of_pending (device_of (machine_of D past) 0).pending (n, j) pending in
-    let job : job_number n (device_of (machine_of D past) 0).pending ≡ j =
-    ap (job_number n) list.1 ∙ ap (λ (b : Bool). if b then j else job_number n list.0) (itself n) in
+    let job : job_or_zero n (device_of (machine_of D past) 0).pending ≡ j =
+    ap (job_or_zero n) list.1 ∙ ap (λ (b : Bool). if b then j else job_or_zero n list.0) (itself n) in
     record {
       legal = (lt-ltb _ _ (omega (arith, solo.count)), issue_fault D past stage e n j valid solo follows empty first runs may, follows.legal);
       begun = follows.begun;
@@ -119,7 +122,7 @@ issue_follows D past stage e f n j valid solo follows empty first runs may plain
       resumed = follows.resumed;
       state = follows.state;
       hold = follows.hold;
-      bus = ap (λ (requests : List Outstanding). requests ++ (record { number = n; job = job_number n (device_of (machine_of D past) 0).pending; is_delivered = false }) ∷ []) none
+      bus = ap (λ (requests : List Outstanding). requests ++ (record { number = n; job = job_or_zero n (device_of (machine_of D past) 0).pending; is_delivered = false }) ∷ []) none
           ∙ ap (λ (k : ℕ). let requests : List Outstanding = (record { number = n; job = k; is_delivered = false }) ∷ [] in requests) job
           ∙ ap on_bus (sym flight);
       machine = follows.machine ∙ sym plain;

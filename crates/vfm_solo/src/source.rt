@@ -58,7 +58,7 @@ impl Engine {
     }
 
     /// Whether the move may begin: the device completed what is wanted before, or is idle.
-    pub fn may_begin(&self, desc: &Desc) -> bool
+    pub fn may_begin_move(&self, desc: &Desc) -> bool
         requires solo { IsSolo desc.now }
         requires ready { IsReady desc.now self.now }
         ensures begins { IsTrue result → (desc.now.begin ≤ completed_of self.now) ⊎ ((self.now.flight ≡ Empty) × ((device_of self.now.plain 0).pending ≡ [])) }
@@ -82,7 +82,7 @@ impl Engine {
         ensures begins { (desc.now.begin ≤ completed_of self.new) ⊎ ((self.new.flight ≡ Empty) × ((device_of self.new.plain 0).pending ≡ [])) }
     {
         // where the move may begin at once, the device's step of the first round would have done nothing
-        while !self.may_begin(desc) {
+        while !self.may_begin_move(desc) {
             let (_, done, _) = self.plain.counts(DeviceId(0));
             self.step(desc, done < desc.begin);
         }

@@ -1,8 +1,9 @@
 -- What the laws of the table speak of: the steps of a path, its end, its interior, and how a running device comes to stop.
 use Rattle.std.specs.Prelude.{ℕ, ◌&&◌, not, Bool, true, false, Ok, Err, List, [], ◌∷◌}
 use Rattle.vfm_types.specs.declared.state.MigState.{MigState}
-use Rattle.vfm_types.specs.declared.state.MigState.TheVariants.{Stop, Running, StopCopy, Resuming, RunningP2p, PreCopy, PreCopyP2p}
+use Rattle.vfm_types.specs.declared.state.MigState.TheVariants.{Running, StopCopy, RunningP2p, PreCopy, PreCopyP2p}
 use Rattle.vfm_types.specs.Paths.{same_state, next_of}
+use Rattle.vfm_types.specs.Arcs.{is_stopped}
 
 -- each step of a path, from a state to the one after it, passes the test
 abbrev pub each_step : (MigState → MigState → Bool) → List MigState → Bool
@@ -48,19 +49,6 @@ abbrev pub lends_on_the_way : MigState → MigState → Bool
 lends_on_the_way PreCopy StopCopy = true
 lends_on_the_way Running PreCopyP2p = true
 lends_on_the_way _ _ = false
-
--- the device doesn't run: STOP, STOP_COPY or RESUMING
-abbrev pub is_stopped : MigState → Bool
-is_stopped Stop = true
-is_stopped StopCopy = true
-is_stopped Resuming = true
-is_stopped _ = false
-
--- the device runs, and starts peer-to-peer DMA as it likes: RUNNING or PRE_COPY
-abbrev pub runs_freely : MigState → Bool
-runs_freely Running = true
-runs_freely PreCopy = true
-runs_freely _ = false
 
 -- RUNNING_P2P stands before the first stopped state, if there is one
 abbrev pub stops_by_p2p : List MigState → Bool

@@ -5,7 +5,8 @@ ghost use Rattle.std.specs.List.{list_all};
 ghost use Rattle.vfm_types.specs.declared.state.MigState.{MigState};
 ghost use Rattle.vfm_types.specs.State.{is_flags, has_p2p};
 ghost use Rattle.vfm_types.specs.Paths.{next_of, path_of, supports, is_single_arc};
-ghost use Rattle.vfm_states.specs.Laws.{each_step, is_next, begins_at, ends_at, interior, lends_data, lends_on_the_way, is_stopped, runs_freely, running_stops_by_p2p};
+ghost use Rattle.vfm_states.specs.Laws.{each_step, is_next, begins_at, ends_at, interior, lends_data, lends_on_the_way, running_stops_by_p2p};
+ghost use Rattle.vfm_types.specs.Arcs.{is_running, is_stopped};
 
 /// With all flags each step of each path is one of the fifteen single arcs of `linux/vfio.h`.
 pub fn single_arcs()
@@ -38,5 +39,5 @@ pub fn supported_only()
 /// and no next state of `RUNNING` or `PRE_COPY` is a stopped one.
 pub fn stops_through_p2p()
     ensures paths { (from to : MigState) (bits : ℕ) → IsTrue (is_flags bits) → IsTrue (has_p2p bits) → IfOk (path_of from to bits) (λ route. IsTrue (running_stops_by_p2p route)) }
-    ensures steps { (from to : MigState) (bits : ℕ) → IsTrue (is_flags bits) → IsTrue (has_p2p bits) → IsTrue (runs_freely from) → IfOk (next_of from to bits) (λ next. IsFalse (is_stopped next)) }
+    ensures steps { (from to : MigState) (bits : ℕ) → IsTrue (is_flags bits) → IsTrue (has_p2p bits) → IsTrue (is_running from) → IfOk (next_of from to bits) (λ next. IsFalse (is_stopped next)) }
 {}

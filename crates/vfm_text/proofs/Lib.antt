@@ -1,4 +1,5 @@
 pub mod Parts
 pub mod Flushing
-pub mod ReportParts
+pub mod PartsInOrder
 pub mod Printing
+pub mod Pieces

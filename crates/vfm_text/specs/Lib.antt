@@ -1,6 +1,6 @@
-pub mod Pens
-pub mod Gathered
-pub mod GatheredLaws
+pub mod Writers
+pub mod Buffered
+pub mod BufferedLaws
 pub mod Prints
 pub mod Parts
 pub mod Hashed

@@ -4,9 +4,9 @@ ghost use Rattle.std.specs.Prelude.{◌≡◌, ℕ, ◌≤◌, List, [], ◌∷�
 ghost use Rattle.std.specs.List.{flat_map};
 ghost use Rattle.hex.specs.Hex.{encode_lower};
 ghost use Rattle.vfm_plain.specs.Text.{line};
-ghost use Rattle.vfm_text.specs.Pens.{Writes};
+ghost use Rattle.vfm_text.specs.Writers.{Writes};
 
-use crate::Pen;
+use crate::TextWriter;
 use itoa::Buffer;
 use vfm_outside::Failed;
 
@@ -14,64 +14,64 @@ use vfm_outside::Failed;
 const GROUP: usize = 64;
 
 /// Writes pieces one after another.
-pub fn put_all<P: Pen>(pen: &mut P, pieces: &[&[u8]]) -> Result<(), Failed>
-    ensures { Writes P.takes P.stops pen.old pen.new (flat_map (λ piece. piece.now) pieces.now) result }
+pub fn put_all<P: TextWriter>(writer: &mut P, pieces: &[&[u8]]) -> Result<(), Failed>
+    ensures { Writes P.takes P.stops writer.old writer.new (flat_map (λ piece. piece.now) pieces.now) result }
 {
     for piece in pieces {
-        pen.put(piece)?;
+        writer.put(piece)?;
     }
     Ok(())
 }
 
 /// Writes a word and the words behind it as a line.
-pub fn put_line<P: Pen>(pen: &mut P, first: &[u8], words: &[&[u8]]) -> Result<(), Failed>
-    ensures { Writes P.takes P.stops pen.old pen.new (line first.now (map (λ word. word.now) words.now)) result }
+pub fn put_line<P: TextWriter>(writer: &mut P, first: &[u8], words: &[&[u8]]) -> Result<(), Failed>
+    ensures { Writes P.takes P.stops writer.old writer.new (line first.now (map (λ word. word.now) words.now)) result }
 {
-    pen.put(first)?;
+    writer.put(first)?;
     for word in words {
-        put_all(pen, &[b" ", word])?;
+        put_all(writer, &[b" ", word])?;
     }
-    pen.put(b"\n")
+    writer.put(b"\n")
 }
 
 /// Writes bytes as hex digits.
-pub fn put_hex<P: Pen>(pen: &mut P, bytes: &[u8]) -> Result<(), Failed>
-    ensures { Writes P.takes P.stops pen.old pen.new (encode_lower bytes.now) result }
+pub fn put_hex<P: TextWriter>(writer: &mut P, bytes: &[u8]) -> Result<(), Failed>
+    ensures { Writes P.takes P.stops writer.old writer.new (encode_lower bytes.now) result }
 {
     let mut at = 0;
     while at < bytes.len() {
         let n = GROUP.min(bytes.len() - at);
-        put_group(pen, &bytes[at..at + n])?;
+        put_group(writer, &bytes[at..at + n])?;
         at += n;
     }
     Ok(())
 }
 
 /// Writes at most 64 bytes as hex digits.
-fn put_group<P: Pen>(pen: &mut P, bytes: &[u8]) -> Result<(), Failed>
+fn put_group<P: TextWriter>(writer: &mut P, bytes: &[u8]) -> Result<(), Failed>
     requires { length bytes.now ≤ 64 }
-    ensures { Writes P.takes P.stops pen.old pen.new (encode_lower bytes.now) result }
+    ensures { Writes P.takes P.stops writer.old writer.new (encode_lower bytes.now) result }
 {
     let mut digits = [0u8; 2 * GROUP];
     let text = &mut digits[..2 * bytes.len()];
     if hex::encode_to_slice(bytes, text).is_err() {
         unreachable!();
     }
-    pen.put(text)
+    writer.put(text)
 }
 
 /// Writes a line of a word, a number and bytes as hex digits.
-pub fn put_hex_line<P: Pen>(
-    pen: &mut P,
+pub fn put_hex_line<P: TextWriter>(
+    writer: &mut P,
     word: &[u8],
     number: u32,
     bytes: &[u8],
 ) -> Result<(), Failed>
-    ensures { Writes P.takes P.stops pen.old pen.new
+    ensures { Writes P.takes P.stops writer.old writer.new
         (line word.now (decimal number ∷ encode_lower bytes.now ∷ [])) result }
 {
     let mut digits = Buffer::new();
-    put_all(pen, &[word, b" ", digits.format(number).as_bytes(), b" "])?;
-    put_hex(pen, bytes)?;
-    pen.put(b"\n")
+    put_all(writer, &[word, b" ", digits.format(number).as_bytes(), b" "])?;
+    put_hex(writer, bytes)?;
+    writer.put(b"\n")
 }

@@ -1,16 +1,16 @@
 //! Machines as text.
 
-ghost use Rattle.std.specs.Prelude.{◌≡◌, ℕ, ◌<◌, List, [], ◌∷◌, ◌++◌, codes, decimal, slice_index_or, length};
+ghost use Rattle.std.specs.Prelude.{◌≡◌, ℕ, ◌<◌, ◌≤◌, sum, List, [], ◌∷◌, ◌++◌, codes, decimal, slice_index_or, length};
 ghost use Rattle.std.specs.List.{flat_map};
 ghost use Rattle.hex.specs.Hex.{encode_lower};
 ghost use Rattle.vfm_types.specs.Desc.{device_count, shape_at};
 ghost use Rattle.vfm_types.specs.Machine.{device_of};
-ghost use Rattle.vfm_plain.specs.Text.{line};
+ghost use Rattle.vfm_plain.specs.Text.{line, numbered_text};
 ghost use Rattle.vfm_plain.specs.Shape.{HasShape};
-ghost use Rattle.vfm_plain.specs.StateText.{pages_text, pending_line, counts_line, buf_line, bar_line, described_text, devices_text, state_text};
-ghost use Rattle.vfm_text.specs.Pens.{Writes};
+ghost use Rattle.vfm_plain.specs.StateText.{pages_text, pending_line, counts_line, buf_line, bar_line, numbered_bar_line, pieces, bars_text, described_text, devices_text, state_text};
+ghost use Rattle.vfm_text.specs.Writers.{Writes};
 
-use crate::Pen;
+use crate::{TextBuffer, TextWriter};
 use crate::piece::{put_hex_line, put_line};
 use itoa::Buffer;
 use vfm_outside::Failed;
@@ -18,21 +18,21 @@ use vfm_plain::Plain;
 use vfm_types::{Desc, DeviceId};
 
 /// Writes the lines of a machine's pages.
-fn put_pages<P: Pen>(pen: &mut P, plain: &Plain, desc: &Desc) -> Result<(), Failed>
+fn put_pages<P: TextWriter>(writer: &mut P, plain: &Plain, desc: &Desc) -> Result<(), Failed>
     requires { HasShape desc.now plain.now }
-    ensures { Writes P.takes P.stops pen.old pen.new (pages_text 0 plain.now.pages) result }
+    ensures { Writes P.takes P.stops writer.old writer.new (pages_text 0 plain.now.pages) result }
 {
     for p in 0..desc.pages {
-        put_hex_line(pen, b"page", p, plain.page(p))?;
+        put_hex_line(writer, b"page", p, plain.page(p))?;
     }
     Ok(())
 }
 
 /// Writes the line of a device with its name and its counts.
-fn put_counts<P: Pen>(pen: &mut P, plain: &Plain, desc: &Desc, d: DeviceId) -> Result<(), Failed>
+fn put_counts<P: TextWriter>(writer: &mut P, plain: &Plain, desc: &Desc, d: DeviceId) -> Result<(), Failed>
     requires shape { HasShape desc.now plain.now }
     requires device { d < device_count desc.now }
-    ensures { Writes P.takes P.stops pen.old pen.new (counts_line d (shape_at desc.now d).name (device_of plain.now d)) result }
+    ensures { Writes P.takes P.stops writer.old writer.new (counts_line d (shape_at desc.now d).name (device_of plain.now d)) result }
 {
     let (accepted, done, lost) = plain.counts(d);
     let name = desc.devices.at(u32::from(d.0)).name.bytes();
@@ -41,7 +41,7 @@ fn put_counts<P: Pen>(pen: &mut P, plain: &Plain, desc: &Desc, d: DeviceId) -> R
     let mut done_digits = Buffer::new();
     let mut lost_digits = Buffer::new();
     put_line(
-        pen,
+        writer,
         b"device",
         &[
             digits.format(d.0).as_bytes(),
@@ -57,30 +57,86 @@ fn put_counts<P: Pen>(pen: &mut P, plain: &Plain, desc: &Desc, d: DeviceId) -> R
 }
 
 /// Writes the line of a device's buffer.
-fn put_buf<P: Pen>(pen: &mut P, plain: &Plain, d: DeviceId) -> Result<(), Failed>
+fn put_buf<P: TextWriter>(writer: &mut P, plain: &Plain, d: DeviceId) -> Result<(), Failed>
     requires { d < length plain.now.devices }
-    ensures { Writes P.takes P.stops pen.old pen.new (buf_line d (device_of plain.now d)) result }
+    ensures { Writes P.takes P.stops writer.old writer.new (buf_line d (device_of plain.now d)) result }
 {
-    put_hex_line(pen, b"buf", u32::from(d.0), plain.buf(d))
+    put_hex_line(writer, b"buf", u32::from(d.0), plain.buf(d))
 }
 
-/// Writes the line of a device's BAR.
-fn put_bar<P: Pen>(pen: &mut P, plain: &Plain, d: DeviceId) -> Result<(), Failed>
-    requires { d < length plain.now.devices }
-    ensures { Writes P.takes P.stops pen.old pen.new (bar_line d (device_of plain.now d)) result }
+/// Writes the line of one BAR of several.
+fn put_bar<P: TextWriter>(writer: &mut P, d: DeviceId, k: u32, bytes: &[u8]) -> Result<(), Failed>
+    ensures { Writes P.takes P.stops writer.old writer.new (numbered_bar_line d k bytes.now) result }
 {
-    put_hex_line(pen, b"bar", u32::from(d.0), plain.bar(d))
+    let mut digits = Buffer::new();
+    let mut word = TextBuffer::new();
+    word.add(b"bar ");
+    word.add(digits.format(d.0).as_bytes());
+    put_hex_line(writer, word.as_slice(), k, bytes)
+}
+
+/// Writes the lines of BARs of these sizes, numbered from 0, whose bytes lie one after the other.
+fn put_pieces<P: TextWriter>(
+    writer: &mut P,
+    d: DeviceId,
+    sizes: &[u32],
+    bytes: &[u8],
+) -> Result<(), Failed>
+    requires few { length sizes.now ≤ 6 }
+    requires whole { sum sizes.now ≡ length bytes.now }
+    ensures { Writes P.takes P.stops writer.old writer.new (numbered_text (numbered_bar_line d) 0 (pieces sizes.now bytes.now)) result }
+{
+    let mut rest = bytes;
+    for k in 0..sizes.len() {
+        let (bar, more) = rest.split_at(sizes[k] as usize);
+        put_bar(writer, d, k as u32, bar)?;
+        rest = more;
+    }
+    Ok(())
+}
+
+/// Writes the lines of BARs of these sizes: one has no number.
+fn put_sized_bars<P: TextWriter>(
+    writer: &mut P,
+    d: DeviceId,
+    sizes: &[u32],
+    bytes: &[u8],
+) -> Result<(), Failed>
+    requires few { length sizes.now ≤ 6 }
+    requires whole { sum sizes.now ≡ length bytes.now }
+    ensures { Writes P.takes P.stops writer.old writer.new (bars_text d sizes.now bytes.now) result }
+{
+    if sizes.len() == 1 {
+        put_hex_line(writer, b"bar", u32::from(d.0), bytes)
+    } else {
+        put_pieces(writer, d, sizes, bytes)
+    }
+}
+
+/// Writes the lines of a device's BARs.
+fn put_bars<P: TextWriter>(
+    writer: &mut P,
+    plain: &Plain,
+    desc: &Desc,
+    d: DeviceId,
+) -> Result<(), Failed>
+    requires shape { HasShape desc.now plain.now }
+    requires device { d < device_count desc.now }
+    ensures { Writes P.takes P.stops writer.old writer.new (bars_text d (shape_at desc.now d).bars (device_of plain.now d).bar) result }
+{
+    let sizes = desc.devices.at(u32::from(d.0)).bars.as_slice();
+    put_sized_bars(writer, d, sizes, plain.bar(d))
 }
 
 /// Writes the line of a pending request.
-fn put_request<P: Pen>(pen: &mut P, d: DeviceId, request: (u32, u32)) -> Result<(), Failed>
-    ensures { Writes P.takes P.stops pen.old pen.new (pending_line d request) result }
+fn put_request<P: TextWriter>(writer: &mut P, d: DeviceId, request: (u32, u32)) -> Result<(), Failed>
+    ensures { Writes P.takes P.stops writer.old writer.new (pending_line d request) result }
 {
     let mut device = Buffer::new();
     let mut number = Buffer::new();
     let mut job = Buffer::new();
     put_line(
-        pen,
+        writer,
         b"pend",
         &[
             device.format(d.0).as_bytes(),
@@ -91,45 +147,45 @@ fn put_request<P: Pen>(pen: &mut P, d: DeviceId, request: (u32, u32)) -> Result<
 }
 
 /// Writes the lines of pending requests.
-fn put_pending<P: Pen>(pen: &mut P, d: DeviceId, pending: &[(u32, u32)]) -> Result<(), Failed>
-    ensures { Writes P.takes P.stops pen.old pen.new (flat_map (pending_line d) pending.now) result }
+fn put_pending<P: TextWriter>(writer: &mut P, d: DeviceId, pending: &[(u32, u32)]) -> Result<(), Failed>
+    ensures { Writes P.takes P.stops writer.old writer.new (flat_map (pending_line d) pending.now) result }
 {
     for request in pending {
-        put_request(pen, d, *request)?;
+        put_request(writer, d, *request)?;
     }
     Ok(())
 }
 
 /// Writes the lines of a device.
-fn put_device<P: Pen>(pen: &mut P, plain: &Plain, desc: &Desc, d: DeviceId) -> Result<(), Failed>
+fn put_device<P: TextWriter>(writer: &mut P, plain: &Plain, desc: &Desc, d: DeviceId) -> Result<(), Failed>
     requires shape { HasShape desc.now plain.now }
     requires device { d < device_count desc.now }
-    ensures { Writes P.takes P.stops pen.old pen.new (described_text desc.now d (device_of plain.now d)) result }
+    ensures { Writes P.takes P.stops writer.old writer.new (described_text desc.now d (device_of plain.now d)) result }
 {
-    put_counts(pen, plain, desc, d)?;
-    put_buf(pen, plain, d)?;
-    put_bar(pen, plain, d)?;
-    put_pending(pen, d, plain.pending(d))
+    put_counts(writer, plain, desc, d)?;
+    put_buf(writer, plain, d)?;
+    put_bars(writer, plain, desc, d)?;
+    put_pending(writer, d, plain.pending(d))
 }
 
 /// Writes the lines of a machine's devices.
-fn put_devices<P: Pen>(pen: &mut P, plain: &Plain, desc: &Desc) -> Result<(), Failed>
+fn put_devices<P: TextWriter>(writer: &mut P, plain: &Plain, desc: &Desc) -> Result<(), Failed>
     requires shape { HasShape desc.now plain.now }
     requires few { device_count desc.now < 256 }
-    ensures { Writes P.takes P.stops pen.old pen.new (devices_text desc.now 0 plain.now.devices) result }
+    ensures { Writes P.takes P.stops writer.old writer.new (devices_text desc.now 0 plain.now.devices) result }
 {
     for d in 0..desc.devices.len() as u8 {
-        put_device(pen, plain, desc, DeviceId(d))?;
+        put_device(writer, plain, desc, DeviceId(d))?;
     }
     Ok(())
 }
 
 /// Writes the text of a machine: its pages, then its devices.
-pub fn put_state<P: Pen>(pen: &mut P, plain: &Plain, desc: &Desc) -> Result<(), Failed>
+pub fn put_state<P: TextWriter>(writer: &mut P, plain: &Plain, desc: &Desc) -> Result<(), Failed>
     requires shape { HasShape desc.now plain.now }
     requires few { device_count desc.now < 256 }
-    ensures { Writes P.takes P.stops pen.old pen.new (state_text desc.now plain.now) result }
+    ensures { Writes P.takes P.stops writer.old writer.new (state_text desc.now plain.now) result }
 {
-    put_pages(pen, plain, desc)?;
-    put_devices(pen, plain, desc)
+    put_pages(writer, plain, desc)?;
+    put_devices(writer, plain, desc)
 }

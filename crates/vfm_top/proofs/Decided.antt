@@ -4,7 +4,7 @@ use Rattle.vfm_types.specs.declared.fault.DescFault.{DescFault}
 use Rattle.vfm_types.specs.declared.desc.Desc.{Desc}
 use Rattle.vfm_types.specs.declared.state.MigState.{MigState}
 use Rattle.vfm_outside.specs.Counts.{Rose}
-use Rattle.vfm_desc.specs.Described.{described}
+use Rattle.vfm_desc.specs.Described.{description_of}
 use Rattle.vfm_top.specs.declared.words.Form.{Form}
 use Rattle.vfm_top.specs.declared.words.Form.TheVariants.{Run, Paths}
 use Rattle.vfm_top.specs.declared.status.Status.{Status}
@@ -46,7 +46,7 @@ not_write status is other = absurd cc
 
 -- a described machine is moved, or memory ran out
 moved : (form : Option Form) (bytes : Option (List ℕ)) (before now : ℕ) (status : Status) (text : List ℕ) (read : List ℕ) (machine : Desc)
-    → Says form bytes before now status text → form ≡ Some Run → bytes ≡ Some read → described read ≡ Ok machine → (Rose before now → ⊥)
+    → Says form bytes before now status text → form ≡ Some Run → bytes ≡ Some read → description_of read ≡ Ok machine → (Rose before now → ⊥)
     → (status ≡ Moved) ⊎ (status ≡ NoMemory)
 moved form bytes before now Moved text read machine says f b d quiet = inl refl
 moved form bytes before now NoMemory text read machine says f b d quiet = inr refl
@@ -54,19 +54,19 @@ moved form bytes before now Printed text read machine says f b d quiet = absurd 
 moved form bytes before now (PathRefused fault) text read machine says f b d quiet = absurd (not_paths form says.1 says.2 says.3 f says.4)
 moved form bytes before now BadWords text read machine says f b d quiet = absurd (not_none form f says.0)
 moved form bytes before now (BadDescription fault) text read machine says f b d quiet =
-    let refused = of_bytes (λ read. described read ≡ Err fault) bytes read b says.2 in absurd (not_both (described read) machine fault d refused)
+    let refused = of_bytes (λ read. description_of read ≡ Err fault) bytes read b says.2 in absurd (not_both (description_of read) machine fault d refused)
 moved form bytes before now ReadFault text read machine says f b d quiet = absurd (quiet says.1)
 moved form bytes before now other text read machine says f b d quiet = absurd says
 
 -- a faulty description is told by its fault, or memory ran out
 refused : (form : Option Form) (bytes : Option (List ℕ)) (before now : ℕ) (status : Status) (text : List ℕ) (read : List ℕ) (fault : DescFault)
-    → Says form bytes before now status text → form ≡ Some Run → bytes ≡ Some read → described read ≡ Err fault → (Rose before now → ⊥)
+    → Says form bytes before now status text → form ≡ Some Run → bytes ≡ Some read → description_of read ≡ Err fault → (Rose before now → ⊥)
     → (status ≡ BadDescription fault) ⊎ (status ≡ NoMemory)
-refused form bytes before now Moved text read fault says f b d quiet = absurd (not_both (described read) says.2.desc fault (of_bytes (λ read. described read ≡ Ok says.2.desc) bytes read b says.2.described) d)
+refused form bytes before now Moved text read fault says f b d quiet = absurd (not_both (description_of read) says.2.desc fault (of_bytes (λ read. description_of read ≡ Ok says.2.desc) bytes read b says.2.description_of) d)
 refused form bytes before now Printed text read fault says f b d quiet = absurd (not_paths form says.1.from says.1.to says.1.flags f says.1.asked)
 refused form bytes before now (PathRefused x) text read fault says f b d quiet = absurd (not_paths form says.1 says.2 says.3 f says.4)
 refused form bytes before now BadWords text read fault says f b d quiet = absurd (not_none form f says.0)
-refused form bytes before now (BadDescription x) text read fault says f b d quiet = inl (same_fault (described read) x fault (of_bytes (λ read. described read ≡ Err x) bytes read b says.2) d)
+refused form bytes before now (BadDescription x) text read fault says f b d quiet = inl (same_fault (description_of read) x fault (of_bytes (λ read. description_of read ≡ Err x) bytes read b says.2) d)
 refused form bytes before now ReadFault text read fault says f b d quiet = absurd (quiet says.1)
 refused form bytes before now NoMemory text read fault says f b d quiet = inr refl
 refused form bytes before now other text read fault says f b d quiet = absurd says
@@ -90,13 +90,13 @@ failed form bytes before now other text says is = absurd cc
 -- so it is with the whole answer
 pub moves : (form : Option Form) (bytes : Option (List ℕ)) (before now : ℕ) (result : Status) (held : Option (List ℕ)) (faults : ℕ) (holds : Option (List ℕ)) (after : ℕ)
     → Answers form bytes before now result held faults holds after → (read : List ℕ) (machine : Desc) → form ≡ Some Run → bytes ≡ Some read
-    → described read ≡ Ok machine → (Rose before now → ⊥) → (Rose faults after → ⊥) → (result ≡ Moved) ⊎ (result ≡ NoMemory)
+    → description_of read ≡ Ok machine → (Rose before now → ⊥) → (Rose faults after → ⊥) → (result ≡ Moved) ⊎ (result ≡ NoMemory)
 moves form bytes before now result held faults holds after a read machine f b d quiet still =
     rw (answered result a.status a.text held faults holds after a.ends still) (moved form bytes before now a.status a.text read machine a.says f b d quiet)
 
 pub refuses : (form : Option Form) (bytes : Option (List ℕ)) (before now : ℕ) (result : Status) (held : Option (List ℕ)) (faults : ℕ) (holds : Option (List ℕ)) (after : ℕ)
     → Answers form bytes before now result held faults holds after → (read : List ℕ) (fault : DescFault) → form ≡ Some Run → bytes ≡ Some read
-    → described read ≡ Err fault → (Rose before now → ⊥) → (Rose faults after → ⊥) → (result ≡ BadDescription fault) ⊎ (result ≡ NoMemory)
+    → description_of read ≡ Err fault → (Rose before now → ⊥) → (Rose faults after → ⊥) → (result ≡ BadDescription fault) ⊎ (result ≡ NoMemory)
 refuses form bytes before now result held faults holds after a read fault f b d quiet still =
     rw (answered result a.status a.text held faults holds after a.ends still) (refused form bytes before now a.status a.text read fault a.says f b d quiet)
 

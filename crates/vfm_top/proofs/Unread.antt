@@ -8,7 +8,7 @@ use Rattle.vfm_top.specs.Says.{Says, Answers, bytes_read, read_limit}
 
 pub unread : (form : Option Form) (bytes : List ℕ) (before now : ℕ) (status : Status) (text : List ℕ) → Says form (Some bytes) before now status text → Says form None before now status text
 unread form bytes before now Moved text h =
-    (h.0, h.1, record { desc = h.2.desc; source = h.2.source; joint = h.2.joint; destination = h.2.destination; last = h.2.last; described = tt; valid = h.2.valid; move_made = h.2.move_made; told = h.2.told })
+    (h.0, h.1, record { desc = h.2.desc; source = h.2.source; joint = h.2.joint; destination = h.2.destination; last = h.2.last; description_of = tt; valid = h.2.valid; move_made = h.2.move_made; told = h.2.told })
 unread form bytes before now (BadDescription fault) text h = (h.0, h.1, tt, h.3)
 unread form bytes before now other text h = h
 

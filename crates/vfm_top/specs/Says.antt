@@ -10,7 +10,7 @@ use Rattle.vfm_outside.specs.Counts.{Rose}
 use Rattle.vfm_outside.specs.Told.{told_then}
 use Rattle.vfm_plain.specs.Report.{Told, report_text}
 use Rattle.vfm_text.specs.Prints.{IsCut}
-use Rattle.vfm_desc.specs.Described.{described}
+use Rattle.vfm_desc.specs.Described.{description_of}
 use Rattle.vfm_top.specs.declared.words.Form.{Form}
 use Rattle.vfm_top.specs.declared.words.Form.TheVariants.{Run, Paths}
 use Rattle.vfm_top.specs.declared.status.Status.{Status}
@@ -38,7 +38,7 @@ pub record SaysMoved (bytes : Option (List ℕ)) (text : List ℕ) : Type 0 wher
   pub joint : Machine
   pub destination : List Entry
   pub last : Machine
-  pub described : IfSome bytes (λ read. described read ≡ Ok desc)
+  pub description_of : IfSome bytes (λ read. description_of read ≡ Ok desc)
   pub valid : IsValid desc
   pub move_made : IsMove desc source joint destination last
   pub told : text ≡ report_text desc (status_line Moved) (Some (moved_told source joint destination last))
@@ -64,7 +64,7 @@ Says form bytes before now (PathRefused fault) text =
     × (text ≡ refused_line fault)
 Says form bytes before now BadWords text = (form ≡ None) × (now ≡ before) × (text ≡ status_line BadWords)
 Says form bytes before now (BadDescription fault) text =
-    (form ≡ Some Run) × (now ≡ before) × IfSome bytes (λ read. described read ≡ Err fault) × (text ≡ status_line (BadDescription fault))
+    (form ≡ Some Run) × (now ≡ before) × IfSome bytes (λ read. description_of read ≡ Err fault) × (text ≡ status_line (BadDescription fault))
 Says form bytes before now ReadFault text = (form ≡ Some Run) × Rose before now × (text ≡ status_line ReadFault)
 Says form bytes before now NoMemory text = (form ≡ Some Run) × (now ≡ before) × (text ≡ status_line NoMemory)
 Says form bytes before now _ text = ⊥

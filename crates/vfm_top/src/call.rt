@@ -3,7 +3,7 @@
 ghost use Rattle.std.specs.Prelude.{◌≡◌, ◌≢◌, ◌⊎◌, ◌≤◌, ℕ, List, length, Option, Some, None, Ok, Err, MatchOption, map, string_bytes};
 ghost use Rattle.vfm_types.specs.declared.desc.Desc.{Desc};
 ghost use Rattle.vfm_outside.specs.Counts.{Rose};
-ghost use Rattle.vfm_desc.specs.Described.{described};
+ghost use Rattle.vfm_desc.specs.Described.{description_of};
 ghost use Rattle.vfm_top.specs.declared.status.Status.TheVariants.{Moved, BadWords, BadDescription, ReadFault as Unreadable, WriteFault as Unwritten, NoMemory};
 ghost use Rattle.vfm_types.specs.declared.fault.DescFault.{DescFault as Fault};
 ghost use Rattle.vfm_top.specs.declared.words.Form.TheVariants.{Run, Paths};
@@ -116,10 +116,10 @@ pub fn run<H: Threads + Wait + Sync, D: Source, R: Source, S: Sink, W: Wires, B:
     ensures answer { Answers (form_of (map string_bytes words.now)) (bytes_read (D.left desc.old)) (D.faults desc.old) (D.faults desc.new)
         result (S.holds out.old) (S.faults out.old) (S.holds out.new) (S.faults out.new) }
     ensures moves { (read : List ℕ) (machine : Desc) → form_of (map string_bytes words.now) ≡ Some Run → bytes_read (D.left desc.old) ≡ Some read
-        → described read ≡ Ok machine → (Rose (D.faults desc.old) (D.faults desc.new) → ⊥) → (Rose (S.faults out.old) (S.faults out.new) → ⊥)
+        → description_of read ≡ Ok machine → (Rose (D.faults desc.old) (D.faults desc.new) → ⊥) → (Rose (S.faults out.old) (S.faults out.new) → ⊥)
         → (result ≡ Moved) ⊎ (result ≡ NoMemory) }
     ensures refuses { (read : List ℕ) (fault : Fault) → form_of (map string_bytes words.now) ≡ Some Run → bytes_read (D.left desc.old) ≡ Some read
-        → described read ≡ Err fault → (Rose (D.faults desc.old) (D.faults desc.new) → ⊥) → (Rose (S.faults out.old) (S.faults out.new) → ⊥)
+        → description_of read ≡ Err fault → (Rose (D.faults desc.old) (D.faults desc.new) → ⊥) → (Rose (S.faults out.old) (S.faults out.new) → ⊥)
         → (result ≡ BadDescription fault) ⊎ (result ≡ NoMemory) }
     ensures bad_words { form_of (map string_bytes words.now) ≡ None → (Rose (S.faults out.old) (S.faults out.new) → ⊥) → result ≡ BadWords }
     ensures read_fault { result ≡ Unreadable → Rose (D.faults desc.old) (D.faults desc.new) }

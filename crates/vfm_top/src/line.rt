@@ -2,7 +2,7 @@
 
 ghost use Rattle.std.specs.Prelude.{◌≡◌, ℕ, ◌≤◌, ◌+◌, List, [], ◌∷◌, ◌++◌, codes, map, length, decimal};
 ghost use Rattle.vfm_plain.specs.Text.{line};
-ghost use Rattle.vfm_text.specs.Pens.{Writes};
+ghost use Rattle.vfm_text.specs.Writers.{Writes};
 ghost use Rattle.vfm_top.specs.StatusText.{device_word, job_word, field_word, fault_line, path_line, refused_line};
 ghost use Rattle.vfm_top.specs.StatusText as spec;
 
@@ -10,18 +10,18 @@ use itoa::Buffer;
 use vfm_desc::member_name;
 use vfm_outside::Failed;
 use vfm_states::Route;
-use vfm_text::{Gather, Pen, put_all, put_line, state_name};
+use vfm_text::{TextBuffer, TextWriter, put_all, put_line, state_name};
 use vfm_types::{DescFault, Field, PathFault};
 
 /// Writes the line of a status that is one word.
-pub fn put_word<P: Pen>(pen: &mut P, word: &[u8]) -> Result<(), Failed>
-    ensures { Writes P.takes P.stops pen.old pen.new (line (codes "status") (word.now ∷ [])) result }
+pub fn put_word<P: TextWriter>(writer: &mut P, word: &[u8]) -> Result<(), Failed>
+    ensures { Writes P.takes P.stops writer.old writer.new (line (codes "status") (word.now ∷ [])) result }
 {
-    put_line(pen, b"status", &[word])
+    put_line(writer, b"status", &[word])
 }
 
 /// Text of a number.
-fn add_number(word: &mut Gather, number: u32)
+fn add_number(word: &mut TextBuffer, number: u32)
     requires { length word.old ≤ 1000 }
     ensures value { word.new ≡ word.old ++ decimal number }
     ensures short { length word.new ≤ length word.old + 40 }
@@ -31,18 +31,18 @@ fn add_number(word: &mut Gather, number: u32)
 }
 
 /// A device, as a fault names it.
-fn device_text(d: u32) -> Gather
+fn device_text(d: u32) -> TextBuffer
     ensures value { result ≡ device_word d }
     ensures short { length result ≤ 48 }
 {
-    let mut word = Gather::new();
+    let mut word = TextBuffer::new();
     word.add(b"devices.");
     add_number(&mut word, d);
     word
 }
 
 /// A job of a device, as a fault names it.
-fn job_text(d: u32, j: u32) -> Gather
+fn job_text(d: u32, j: u32) -> TextBuffer
     ensures value { result ≡ job_word d j }
     ensures short { length result ≤ 94 }
 {
@@ -53,12 +53,12 @@ fn job_text(d: u32, j: u32) -> Gather
 }
 
 /// A member with what stands before it, as a fault names it.
-fn field_text(field: &Field) -> Gather
+fn field_text(field: &Field) -> TextBuffer
     ensures { result ≡ field_word field.now }
 {
     let name = member_name(field.name).as_bytes();
     if field.device == u32::MAX {
-        let mut word = Gather::new();
+        let mut word = TextBuffer::new();
         word.add(name);
         return word;
     }
@@ -93,7 +93,7 @@ fn cause(fault: &DescFault) -> &'static [u8]
 }
 
 /// Where it stands.
-fn place(fault: &DescFault) -> Option<Gather>
+fn place(fault: &DescFault) -> Option<TextBuffer>
     ensures { result ≡ spec.place_word fault.now }
 {
     match fault {
@@ -113,43 +113,43 @@ fn place(fault: &DescFault) -> Option<Gather>
 }
 
 /// Writes the line of a faulty description.
-pub fn put_fault<P: Pen>(pen: &mut P, fault: &DescFault) -> Result<(), Failed>
-    ensures { Writes P.takes P.stops pen.old pen.new (fault_line fault.now) result }
+pub fn put_fault<P: TextWriter>(writer: &mut P, fault: &DescFault) -> Result<(), Failed>
+    ensures { Writes P.takes P.stops writer.old writer.new (fault_line fault.now) result }
 {
     match place(fault) {
         Some(place) => put_line(
-            pen,
+            writer,
             b"status",
             &[b"bad-description", cause(fault), place.as_slice()],
         ),
-        None => put_line(pen, b"status", &[b"bad-description", cause(fault)]),
+        None => put_line(writer, b"status", &[b"bad-description", cause(fault)]),
     }
 }
 
 /// Writes the line of a path.
-pub fn put_path<P: Pen>(pen: &mut P, route: &Route) -> Result<(), Failed>
-    ensures { Writes P.takes P.stops pen.old pen.new (path_line route.now) result }
+pub fn put_path<P: TextWriter>(writer: &mut P, route: &Route) -> Result<(), Failed>
+    ensures { Writes P.takes P.stops writer.old writer.new (path_line route.now) result }
 {
-    pen.put(b"path")?;
+    writer.put(b"path")?;
     for i in 0..route.len() {
-        put_all(pen, &[b" ", state_name(route.at(i))])?;
+        put_all(writer, &[b" ", state_name(route.at(i))])?;
     }
-    pen.put(b"\n")
+    writer.put(b"\n")
 }
 
 /// Writes the line of a path that is refused.
-pub fn put_refused<P: Pen>(pen: &mut P, fault: &PathFault) -> Result<(), Failed>
-    ensures { Writes P.takes P.stops pen.old pen.new (refused_line fault.now) result }
+pub fn put_refused<P: TextWriter>(writer: &mut P, fault: &PathFault) -> Result<(), Failed>
+    ensures { Writes P.takes P.stops writer.old writer.new (refused_line fault.now) result }
 {
     match fault {
         PathFault::Unsupported(state) => {
-            put_line(pen, b"refused", &[b"unsupported", state_name(*state)])
+            put_line(writer, b"refused", &[b"unsupported", state_name(*state)])
         }
         PathFault::Forbidden { from, to } => put_line(
-            pen,
+            writer,
             b"refused",
             &[b"forbidden", state_name(*from), state_name(*to)],
         ),
-        PathFault::FromError => put_line(pen, b"refused", &[b"from-error"]),
+        PathFault::FromError => put_line(writer, b"refused", &[b"from-error"]),
     }
 }

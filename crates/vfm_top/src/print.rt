@@ -8,7 +8,7 @@ ghost use Rattle.vfm_text.specs.Prints.{Prints};
 ghost use Rattle.vfm_top.specs.declared.status.Status.TheVariants.{Moved, Printed, BadWords, BadDescription, ReadFault, NoMemory, PathRefused};
 ghost use Rattle.vfm_top.specs.StatusText.{status_line, fault_line, path_line, refused_line};
 ghost use Rattle.vfm_top.specs.Says.{moved_told, Ends};
-ghost use Rattle.vfm_text.specs.Pens.{Writes};
+ghost use Rattle.vfm_text.specs.Writers.{Writes};
 ghost use Rattle.vfm_plain.specs.Text.{line};
 ghost use Rattle.std.specs.Prelude.{[], ◌∷◌, codes};
 
@@ -18,55 +18,55 @@ use vfm_journal::Journal;
 use vfm_outside::{Failed, Sink};
 use vfm_plain::Plain;
 use vfm_states::Route;
-use vfm_text::{Gather, SinkPen, Told, write_report};
+use vfm_text::{TextBuffer, SinkWriter, Told, write_report};
 use vfm_types::{Desc, DescFault, PathFault};
 
 /// Writes the line of a status that is one word.
 fn write_word<S: Sink>(word: &[u8], out: &mut S) -> Result<(), Failed>
     ensures { Prints result (line (codes "status") (word.now ∷ [])) (S.holds out.old) (S.faults out.old) (S.holds out.new) (S.faults out.new) }
 {
-    let mut pen = SinkPen {
-        gather: Gather::new(),
+    let mut writer = SinkWriter {
+        buffer: TextBuffer::new(),
         sink: out,
     };
-    put_word(&mut pen, word)?;
-    pen.flush()
+    put_word(&mut writer, word)?;
+    writer.flush()
 }
 
 /// Writes the line of a faulty description.
 fn write_fault<S: Sink>(fault: &DescFault, out: &mut S) -> Result<(), Failed>
     ensures { Prints result (fault_line fault.now) (S.holds out.old) (S.faults out.old) (S.holds out.new) (S.faults out.new) }
 {
-    let mut pen = SinkPen {
-        gather: Gather::new(),
+    let mut writer = SinkWriter {
+        buffer: TextBuffer::new(),
         sink: out,
     };
-    put_fault(&mut pen, fault)?;
-    pen.flush()
+    put_fault(&mut writer, fault)?;
+    writer.flush()
 }
 
 /// Writes the line of a path.
 fn write_path<S: Sink>(route: &Route, out: &mut S) -> Result<(), Failed>
     ensures { Prints result (path_line route.now) (S.holds out.old) (S.faults out.old) (S.holds out.new) (S.faults out.new) }
 {
-    let mut pen = SinkPen {
-        gather: Gather::new(),
+    let mut writer = SinkWriter {
+        buffer: TextBuffer::new(),
         sink: out,
     };
-    put_path(&mut pen, route)?;
-    pen.flush()
+    put_path(&mut writer, route)?;
+    writer.flush()
 }
 
 /// Writes the line of a path that is refused.
 fn write_refused<S: Sink>(fault: &PathFault, out: &mut S) -> Result<(), Failed>
     ensures { Prints result (refused_line fault.now) (S.holds out.old) (S.faults out.old) (S.holds out.new) (S.faults out.new) }
 {
-    let mut pen = SinkPen {
-        gather: Gather::new(),
+    let mut writer = SinkWriter {
+        buffer: TextBuffer::new(),
         sink: out,
     };
-    put_refused(&mut pen, fault)?;
-    pen.flush()
+    put_refused(&mut writer, fault)?;
+    writer.flush()
 }
 
 /// Prints that the words have no form.

@@ -29,8 +29,8 @@ arc_count d (Fail e to ∷ past) = arc_count d past + (if e == d then 1 else 0)
 arc_count d (entry ∷ past) = arc_count d past
 
 -- what decides what device d may issue: the state that it is held for, if it is held, else the one that it stands in
-abbrev pub level_of : ℕ → List Entry → MigState
-level_of d past = unwrap_or (hold_of d past) (state_of d past)
+abbrev pub effective_state : ℕ → List Entry → MigState
+effective_state d past = unwrap_or (hold_of d past) (state_of d past)
 
 -- the device runs, and starts DMA of every kind
 abbrev pub is_running : MigState → Bool

@@ -13,7 +13,7 @@ use Rattle.vfm_types.specs.Desc.{device_count, shape_at, block_count}
 use Rattle.vfm_types.specs.Job.{is_writer, place_of, length_of, is_bar_of, is_doorbell}
 use Rattle.vfm_types.specs.Requests.{job_of}
 use Rattle.vfm_types.specs.Deliveries.{machine_of}
-use Rattle.vfm_types.specs.Least.{least_below}
+use Rattle.vfm_base.specs.Least.{least_below}
 use Rattle.vfm_types.specs.Phases.{is_joint}
 use Rattle.vfm_types.specs.Arcs.{state_of}
 use Rattle.vfm_types.specs.Marks.{next_copy}
@@ -75,5 +75,5 @@ abbrev pub next_part : Desc → List Entry → Option ℕ
 next_part D past = least_below (device_count D) (λ d. has_part D d past)
 
 -- the newest pass has ended: each page of its set is copied, and each part has ended; so it is before the first pass
-abbrev pub is_pass_ended : Desc → List Entry → Bool
-is_pass_ended D past = is_none (next_copy D past) && is_none (next_part D past)
+abbrev pub is_no_pass_open : Desc → List Entry → Bool
+is_no_pass_open D past = is_none (next_copy D past) && is_none (next_part D past)

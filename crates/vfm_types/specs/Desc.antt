@@ -1,6 +1,6 @@
 -- What a description says of its devices and sizes. Each word is total: a number that no device has stands for
 -- a device without a name, a BAR, a window or jobs.
-use Rattle.std.specs.Prelude.{ℕ, ◌/◌, false, [], length, slice_index_or}
+use Rattle.std.specs.Prelude.{ℕ, ◌/◌, false, [], length, sum, take, slice_index_or}
 use Rattle.std.specs.List.{sum_by}
 use Rattle.vfm_types.specs.declared.job.Job.{Job}
 use Rattle.vfm_types.specs.declared.job.Job.TheVariants.{Read}
@@ -10,7 +10,7 @@ use Rattle.vfm_types.specs.declared.desc.Desc.{Desc}
 -- no device
 abbrev pub no_shape : DevShape
 no_shape =
-    record { name = []; flags = 1; bar = 0; window = 0; tells = false; budget = 0; fails = 0; jobs = []; queue = [] }
+    record { name = []; flags = 1; bars = []; window = 0; tells = false; budget = 0; fails = 0; jobs = []; queue = [] }
 
 -- no job: reads nothing
 abbrev pub no_job : Job
@@ -24,11 +24,19 @@ device_count D = length D.devices
 abbrev pub shape_at : Desc → ℕ → DevShape
 shape_at D d = slice_index_or D.devices d no_shape
 
--- the bytes of the device's BAR
+-- the bytes of all BARs of the device, which lie one after the other
 abbrev pub bar_bytes : DevShape → ℕ
-bar_bytes shape = shape.bar
+bar_bytes shape = sum shape.bars
 
--- the 64-byte blocks of the device's BAR
+-- the bytes of BAR b of the device; one that isn't there has none
+abbrev pub bar_size : DevShape → ℕ → ℕ
+bar_size shape b = slice_index_or shape.bars b 0
+
+-- the bytes of the device's BARs before BAR b
+abbrev pub bars_before : DevShape → ℕ → ℕ
+bars_before shape b = sum (take b shape.bars)
+
+-- the 64-byte blocks of the device's BARs, counted over all of them
 abbrev pub block_count : DevShape → ℕ
 block_count shape = bar_bytes shape / 64
 

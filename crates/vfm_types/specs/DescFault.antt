@@ -21,9 +21,9 @@ name_twice names d (shape ∷ shapes) =
     if list_any (pointwise nat_eq shape.name) names then Some (NameTwice d)
     else name_twice (shape.name ∷ names) (d + 1) shapes
 
--- the job touches the first 8 bytes of a BAR otherwise than by ringing the doorbell that stands there
-abbrev pub spoils_bell : Desc → Job → Bool
-spoils_bell D job =
+-- the job touches the first 8 bytes of a BAR 0 otherwise than by ringing the doorbell that stands there
+abbrev pub is_bell_misused : Desc → Job → Bool
+is_bell_misused D job =
     is_writer job && is_bar (place_of D job).region && nat_lt (place_of D job).offset 8 && not (is_doorbell D job)
 
 -- what is wrong with job j of device d
@@ -31,7 +31,7 @@ abbrev pub job_fault : Desc → ℕ → ℕ → Job → Option DescFault
 job_fault D d j job =
     if is_none (region_of D (address_of job) (length_of job)) then Some (Crosses d j)
     else (if is_bar_of d (place_of D job).region then Some (OwnBar d j)
-    else (if spoils_bell D job then Some (BellKind d j) else None))
+    else (if is_bell_misused D job then Some (BellKind d j) else None))
 
 -- the first fault of these jobs of device d, numbered from j on
 abbrev pub jobs_fault : Desc → ℕ → ℕ → List Job → Option DescFault

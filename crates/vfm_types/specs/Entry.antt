@@ -6,26 +6,26 @@ use Rattle.vfm_types.specs.declared.entry.Entry.{Entry}
 use Rattle.vfm_types.specs.declared.entry.Entry.TheVariants.{Issue, Deliver, Complete, Hold, Arc, Fail, Report, Pass, Copy, Block, Dry, Begin, Joint, Abort, Resume}
 
 -- a kind, a device and a number in one number: 32 bits for the number and 8 for the device
-abbrev pub packed : ℕ → ℕ → ℕ → ℕ
-packed kind d n = kind * 2 ^ 40 + d * 2 ^ 32 + n
+abbrev pub code_of_parts : ℕ → ℕ → ℕ → ℕ
+code_of_parts kind d n = kind * 2 ^ 40 + d * 2 ^ 32 + n
 
 -- the code of an entry: its kind counted from 1, its device, and its request, state, pass, page or block; 0 for what it lacks
 abbrev pub entry_code : Entry → ℕ
-entry_code (Issue d n) = packed 1 d n
-entry_code (Deliver d n) = packed 2 d n
-entry_code (Complete d n) = packed 3 d n
-entry_code (Hold d to) = packed 4 d (state_number to)
-entry_code (Arc d to) = packed 5 d (state_number to)
-entry_code (Fail d to) = packed 6 d (state_number to)
-entry_code (Report d) = packed 7 d 0
-entry_code (Pass k) = packed 8 0 k
-entry_code (Copy p) = packed 9 0 p
-entry_code (Block d b) = packed 10 d b
-entry_code (Dry d) = packed 11 d 0
-entry_code Begin = packed 12 0 0
-entry_code Joint = packed 13 0 0
-entry_code Abort = packed 14 0 0
-entry_code Resume = packed 15 0 0
+entry_code (Issue d n) = code_of_parts 1 d n
+entry_code (Deliver d n) = code_of_parts 2 d n
+entry_code (Complete d n) = code_of_parts 3 d n
+entry_code (Hold d to) = code_of_parts 4 d (state_number to)
+entry_code (Arc d to) = code_of_parts 5 d (state_number to)
+entry_code (Fail d to) = code_of_parts 6 d (state_number to)
+entry_code (Report d) = code_of_parts 7 d 0
+entry_code (Pass k) = code_of_parts 8 0 k
+entry_code (Copy p) = code_of_parts 9 0 p
+entry_code (Block d b) = code_of_parts 10 d b
+entry_code (Dry d) = code_of_parts 11 d 0
+entry_code Begin = code_of_parts 12 0 0
+entry_code Joint = code_of_parts 13 0 0
+entry_code Abort = code_of_parts 14 0 0
+entry_code Resume = code_of_parts 15 0 0
 
 -- an entry, where what it lacks is 0
 abbrev pub entry_if : Bool → Entry → Option Entry
@@ -61,31 +61,31 @@ entry_of_code c =
     if nat_lt kind 7 then low_entry_of kind (c / 2 ^ 32 % 2 ^ 8) (c % 2 ^ 32) else high_entry_of kind (c / 2 ^ 32 % 2 ^ 8) (c % 2 ^ 32)
 
 -- the device of an entry; 0 where it has none
-abbrev pub entry_device : Entry → ℕ
-entry_device (Issue d n) = d
-entry_device (Deliver d n) = d
-entry_device (Complete d n) = d
-entry_device (Hold d to) = d
-entry_device (Arc d to) = d
-entry_device (Fail d to) = d
-entry_device (Report d) = d
-entry_device (Block d b) = d
-entry_device (Dry d) = d
-entry_device _ = 0
+abbrev pub device_or_zero : Entry → ℕ
+device_or_zero (Issue d n) = d
+device_or_zero (Deliver d n) = d
+device_or_zero (Complete d n) = d
+device_or_zero (Hold d to) = d
+device_or_zero (Arc d to) = d
+device_or_zero (Fail d to) = d
+device_or_zero (Report d) = d
+device_or_zero (Block d b) = d
+device_or_zero (Dry d) = d
+device_or_zero _ = 0
 
 -- the request, block, page, pass or state number of an entry; 0 where it has none
-abbrev pub entry_number : Entry → ℕ
-entry_number (Issue d n) = n
-entry_number (Deliver d n) = n
-entry_number (Complete d n) = n
-entry_number (Hold d to) = state_number to
-entry_number (Arc d to) = state_number to
-entry_number (Fail d to) = state_number to
-entry_number (Pass k) = k
-entry_number (Copy p) = p
-entry_number (Block d b) = b
-entry_number _ = 0
+abbrev pub number_or_zero : Entry → ℕ
+number_or_zero (Issue d n) = n
+number_or_zero (Deliver d n) = n
+number_or_zero (Complete d n) = n
+number_or_zero (Hold d to) = state_number to
+number_or_zero (Arc d to) = state_number to
+number_or_zero (Fail d to) = state_number to
+number_or_zero (Pass k) = k
+number_or_zero (Copy p) = p
+number_or_zero (Block d b) = b
+number_or_zero _ = 0
 
 -- the device has 8 bits, and the number 32
 abbrev pub entry_fits : Entry → Bool
-entry_fits e = nat_lt (entry_device e) (2 ^ 8) && nat_lt (entry_number e) (2 ^ 32)
+entry_fits e = nat_lt (device_or_zero e) (2 ^ 8) && nat_lt (number_or_zero e) (2 ^ 32)

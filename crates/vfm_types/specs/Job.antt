@@ -43,13 +43,13 @@ may_ring (Read at len) = false
 may_ring (Store at len) = true
 may_ring (Add at value) = false
 
--- where a job of no place is taken to be; a valid description has none
-abbrev pub no_place : Place
-no_place = record { region = Page 0; offset = 0 }
+-- where a job that is aimed nowhere is taken to be; a valid description has no such job
+abbrev pub page_zero_if_nowhere : Place
+page_zero_if_nowhere = record { region = Page 0; offset = 0 }
 
 -- where the job is aimed
 abbrev pub place_of : Desc → Job → Place
-place_of D job = unwrap_or (region_of D (address_of job) (length_of job)) no_place
+place_of D job = unwrap_or (region_of D (address_of job) (length_of job)) page_zero_if_nowhere
 
 -- the region is a BAR
 abbrev pub is_bar : Region → Bool
@@ -66,16 +66,16 @@ abbrev pub is_page : ℕ → Region → Bool
 is_page p (Page q) = q == p
 is_page p (Bar d) = false
 
--- the device whose BAR it is
-abbrev pub owner_of : Region → ℕ
-owner_of (Page p) = 0
-owner_of (Bar d) = d
+-- the device whose BAR it is; 0 for a page, which no device owns
+abbrev pub owner_or_zero : Region → ℕ
+owner_or_zero (Page p) = 0
+owner_or_zero (Bar d) = d
 
 -- the job is aimed at some BAR
 abbrev pub is_aimed_at_bar : Desc → Job → Bool
 is_aimed_at_bar D job = is_bar (place_of D job).region
 
--- a doorbell stands in the first 8 bytes of a BAR and is written whole
+-- a doorbell stands in the first 8 bytes of a device's BAR 0, which are the first of its BAR bytes, and is written whole
 abbrev pub is_bell : Place → ℕ → Bool
 is_bell place len = is_bar place.region && place.offset == 0 && len == 8
 

@@ -9,7 +9,7 @@ use Rattle.vfm_types.specs.declared.job.Place.{Place}
 use Rattle.vfm_types.specs.declared.desc.DevShape.{DevShape}
 use Rattle.vfm_types.specs.declared.desc.Desc.{Desc}
 use Rattle.vfm_types.specs.Desc.{shape_at, bar_bytes}
-use Rattle.vfm_types.specs.Job.{place_of, owner_of, is_bell}
+use Rattle.vfm_types.specs.Job.{place_of, owner_or_zero, is_bell}
 
 -- A device: the bytes of its BAR, the requests that it has accepted and not done (number and job, in order), its
 -- buffer of 64 bytes, and how many requests it accepted, did, and lost because no such job or no budget was there.
@@ -86,26 +86,26 @@ abbrev pub with_front : Machine → ℕ → List ℕ → Machine
 with_front m d bytes = with_device m d (record (device_of m d) { buf = splice (device_of m d).buf 0 bytes })
 
 -- the device with one more request, for a job that it has and a budget that allows it
-abbrev pub accepting : DeviceState → ℕ → DeviceState
-accepting dev job = record dev { pending = dev.pending ++ (dev.accepted, job) ∷ []; accepted = dev.accepted + 1 }
+abbrev pub with_accepted_request : DeviceState → ℕ → DeviceState
+with_accepted_request dev job = record dev { pending = dev.pending ++ (dev.accepted, job) ∷ []; accepted = dev.accepted + 1 }
 
 -- the device with one more request lost
-abbrev pub losing : DeviceState → DeviceState
-losing dev = record dev { lost = dev.lost + 1 }
+abbrev pub with_lost_request : DeviceState → DeviceState
+with_lost_request dev = record dev { lost = dev.lost + 1 }
 
 -- the device's doorbell rung with a number: the job of that number is accepted or counted as lost
-abbrev pub rung : DevShape → DeviceState → ℕ → DeviceState
-rung shape dev number =
-    if nat_lt number (length shape.jobs) && nat_lt dev.accepted shape.budget then accepting dev number else losing dev
+abbrev pub with_bell_rung : DevShape → DeviceState → ℕ → DeviceState
+with_bell_rung shape dev number =
+    if nat_lt number (length shape.jobs) && nat_lt dev.accepted shape.budget then with_accepted_request dev number else with_lost_request dev
 
 -- the machine after a doorbell is rung
 abbrev pub ring : Desc → Machine → ℕ → ℕ → Machine
-ring D m d number = with_device m d (rung (shape_at D d) (device_of m d) number)
+ring D m d number = with_device m d (with_bell_rung (shape_at D d) (device_of m d) number)
 
 -- the machine after bytes are written at a place: a doorbell is rung and changes no byte
 abbrev pub write_at : Desc → Machine → Place → List ℕ → Machine
 write_at D m place bytes =
-    if is_bell place (length bytes) then ring D m (owner_of place.region) (from_le_bytes w64 bytes)
+    if is_bell place (length bytes) then ring D m (owner_or_zero place.region) (from_le_bytes w64 bytes)
     else put_at m place bytes
 
 -- 8 bytes, little-endian, with a value added to them, wrapping

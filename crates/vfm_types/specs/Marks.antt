@@ -7,9 +7,9 @@ use Rattle.vfm_types.specs.declared.job.Job.{Job}
 use Rattle.vfm_types.specs.declared.desc.Desc.{Desc}
 use Rattle.vfm_types.specs.Desc.{device_count, job_at}
 use Rattle.vfm_types.specs.Job.{is_writer, place_of, is_page}
-use Rattle.vfm_types.specs.Least.{any_below, count_below, least_below}
+use Rattle.vfm_base.specs.Least.{any_below, count_below, least_below}
 use Rattle.vfm_types.specs.Phases.{is_begun}
-use Rattle.vfm_types.specs.Outstanding.{outstanding_of, job_outstanding}
+use Rattle.vfm_types.specs.Outstanding.{outstanding_of, outstanding_job_or_zero}
 
 -- the job writes page p
 abbrev pub writes_page : Desc → ℕ → Job → Bool
@@ -17,7 +17,7 @@ writes_page D p job = is_writer job && is_page p (place_of D job).region
 
 -- the job of the outstanding request n of device d
 abbrev pub outstanding_job : Desc → ℕ → ℕ → List Entry → Job
-outstanding_job D d n past = job_at D d (job_outstanding n (outstanding_of D d past))
+outstanding_job D d n past = job_at D d (outstanding_job_or_zero n (outstanding_of D d past))
 
 -- Page p is marked in the log of device d: since the move began and since the device's last report, a request of its
 -- that wrote the page was completed.

@@ -5,7 +5,7 @@ use Rattle.vfm_types.specs.declared.entry.Entry.{Entry}
 use Rattle.vfm_types.specs.declared.entry.Entry.TheVariants.{Issue, Deliver, Complete}
 use Rattle.vfm_types.specs.declared.desc.Desc.{Desc}
 use Rattle.vfm_types.specs.Machine.{device_of}
-use Rattle.vfm_types.specs.Requests.{job_number}
+use Rattle.vfm_types.specs.Requests.{job_or_zero}
 use Rattle.vfm_types.specs.Deliveries.{machine_of}
 
 -- a request on the bus: its number, its job's number, and whether it has reached its target
@@ -38,7 +38,7 @@ abbrev pub outstanding_of : Desc → ℕ → List Entry → List Outstanding
 outstanding_of D d [] = []
 outstanding_of D d (Issue e n ∷ past) =
     issue_if (e == d)
-    (record { number = n; job = job_number n (device_of (machine_of D past) d).pending; is_delivered = false })
+    (record { number = n; job = job_or_zero n (device_of (machine_of D past) d).pending; is_delivered = false })
     (outstanding_of D d past)
 outstanding_of D d (Deliver e n ∷ past) = deliver_if (e == d) n (outstanding_of D d past)
 outstanding_of D d (Complete e n ∷ past) = complete_if (e == d) n (outstanding_of D d past)
@@ -59,9 +59,9 @@ abbrev pub is_outstanding : ℕ → List Outstanding → Bool
 is_outstanding n requests = list_any (λ r. r.number == n) requests
 
 -- the number of the job of request n among these
-abbrev pub job_outstanding : ℕ → List Outstanding → ℕ
-job_outstanding n [] = 0
-job_outstanding n (r ∷ requests) = if r.number == n then r.job else job_outstanding n requests
+abbrev pub outstanding_job_or_zero : ℕ → List Outstanding → ℕ
+outstanding_job_or_zero n [] = 0
+outstanding_job_or_zero n (r ∷ requests) = if r.number == n then r.job else outstanding_job_or_zero n requests
 
 -- the first pending request that isn't outstanding
 abbrev pub unissued : List Outstanding → List (ℕ × ℕ) → List (ℕ × ℕ)

@@ -40,53 +40,53 @@ is_single_arc PreCopyP2p StopCopy = true
 is_single_arc Stop Resuming = true
 is_single_arc _ _ = false
 
--- short names of what stands in the table
-abbrev no : Option MigState
-no = None
+-- what stands in the table: a state, or that the protocol refuses the way
+abbrev refused : Option MigState
+refused = None
 
-abbrev s : Option MigState
-s = Some Stop
+abbrev stop : Option MigState
+stop = Some Stop
 
-abbrev r : Option MigState
-r = Some Running
+abbrev running : Option MigState
+running = Some Running
 
-abbrev sc : Option MigState
-sc = Some StopCopy
+abbrev stop_copy : Option MigState
+stop_copy = Some StopCopy
 
-abbrev re : Option MigState
-re = Some Resuming
+abbrev resuming : Option MigState
+resuming = Some Resuming
 
-abbrev rp : Option MigState
-rp = Some RunningP2p
+abbrev running_p2p : Option MigState
+running_p2p = Some RunningP2p
 
-abbrev p : Option MigState
-p = Some PreCopy
+abbrev pre_copy : Option MigState
+pre_copy = Some PreCopy
 
-abbrev pp : Option MigState
-pp = Some PreCopyP2p
+abbrev pre_copy_p2p : Option MigState
+pre_copy_p2p = Some PreCopyP2p
 
 -- a row of the table: what stands under STOP, RUNNING, STOP_COPY, RESUMING, RUNNING_P2P, PRE_COPY and PRE_COPY_P2P
 abbrev row : Option MigState → Option MigState → Option MigState → Option MigState → Option MigState → Option MigState → Option MigState → MigState → Option MigState
-row c1 c2 c3 c4 c5 c6 c7 Stop = c1
-row c1 c2 c3 c4 c5 c6 c7 Running = c2
-row c1 c2 c3 c4 c5 c6 c7 StopCopy = c3
-row c1 c2 c3 c4 c5 c6 c7 Resuming = c4
-row c1 c2 c3 c4 c5 c6 c7 RunningP2p = c5
-row c1 c2 c3 c4 c5 c6 c7 PreCopy = c6
-row c1 c2 c3 c4 c5 c6 c7 PreCopyP2p = c7
-row c1 c2 c3 c4 c5 c6 c7 Error = no
+row to_stop to_running to_stop_copy to_resuming to_running_p2p to_pre_copy to_pre_copy_p2p Stop = to_stop
+row to_stop to_running to_stop_copy to_resuming to_running_p2p to_pre_copy to_pre_copy_p2p Running = to_running
+row to_stop to_running to_stop_copy to_resuming to_running_p2p to_pre_copy to_pre_copy_p2p StopCopy = to_stop_copy
+row to_stop to_running to_stop_copy to_resuming to_running_p2p to_pre_copy to_pre_copy_p2p Resuming = to_resuming
+row to_stop to_running to_stop_copy to_resuming to_running_p2p to_pre_copy to_pre_copy_p2p RunningP2p = to_running_p2p
+row to_stop to_running to_stop_copy to_resuming to_running_p2p to_pre_copy to_pre_copy_p2p PreCopy = to_pre_copy
+row to_stop to_running to_stop_copy to_resuming to_running_p2p to_pre_copy to_pre_copy_p2p PreCopyP2p = to_pre_copy_p2p
+row to_stop to_running to_stop_copy to_resuming to_running_p2p to_pre_copy to_pre_copy_p2p Error = refused
 
 -- the table of next states: from a state, the next one towards another; nothing where the protocol refuses the way
 abbrev pub step_towards : MigState → MigState → Option MigState
--- (columns: STOP, RUNNING, STOP_COPY, RESUMING, RUNNING_P2P, PRE_COPY, PRE_COPY_P2P)
-step_towards Stop = row s rp sc re rp rp rp
-step_towards Running = row rp r rp rp rp p p
-step_towards StopCopy = row s s sc s s no no
-step_towards Resuming = row s s s re s s s
-step_towards RunningP2p = row s r s s rp r pp
-step_towards PreCopy = row r r pp r r p pp
-step_towards PreCopyP2p = row rp rp sc rp rp p pp
-step_towards Error = row no no no no no no no
+-- (towards: STOP, RUNNING, STOP_COPY, RESUMING, RUNNING_P2P, PRE_COPY, PRE_COPY_P2P)
+step_towards Stop = row stop running_p2p stop_copy resuming running_p2p running_p2p running_p2p
+step_towards Running = row running_p2p running running_p2p running_p2p running_p2p pre_copy pre_copy
+step_towards StopCopy = row stop stop stop_copy stop stop refused refused
+step_towards Resuming = row stop stop stop resuming stop stop stop
+step_towards RunningP2p = row stop running stop stop running_p2p running pre_copy_p2p
+step_towards PreCopy = row running running pre_copy_p2p running running pre_copy pre_copy_p2p
+step_towards PreCopyP2p = row running_p2p running_p2p stop_copy running_p2p running_p2p pre_copy pre_copy_p2p
+step_towards Error = row refused refused refused refused refused refused refused
 
 -- the table's answer as a state, and the state itself where the way is refused
 abbrev pub step_or_stay : MigState → MigState → MigState

@@ -7,9 +7,9 @@ use Rattle.vfm_types.specs.Job.{is_fence}
 use Rattle.vfm_types.specs.Machine.{DeviceState, Machine, device_of, with_device, described, effect}
 
 -- the job of the request with this number among pending ones
-abbrev pub job_number : ℕ → List (ℕ × ℕ) → ℕ
-job_number n [] = 0
-job_number n (request ∷ requests) = if request.0 == n then request.1 else job_number n requests
+abbrev pub job_or_zero : ℕ → List (ℕ × ℕ) → ℕ
+job_or_zero n [] = 0
+job_or_zero n (request ∷ requests) = if request.0 == n then request.1 else job_or_zero n requests
 
 -- pending requests without the one of this number
 abbrev pub without : ℕ → List (ℕ × ℕ) → List (ℕ × ℕ)
@@ -35,7 +35,7 @@ is_enabled D m d n = is_free (fences D d) true (shape_at D d).window (device_of 
 
 -- the job of request n of device d
 abbrev pub job_of : Desc → Machine → ℕ → ℕ → Job
-job_of D m d n = job_at D d (job_number n (device_of m d).pending)
+job_of D m d n = job_at D d (job_or_zero n (device_of m d).pending)
 
 -- the device with request n taken from its pending ones, and one more done
 abbrev pub taken : DeviceState → ℕ → DeviceState

@@ -13,12 +13,12 @@ use Rattle.vfm_types.specs.Job.{is_aimed_at_bar}
 use Rattle.vfm_types.specs.Machine.{device_of}
 use Rattle.vfm_types.specs.Requests.{fences}
 use Rattle.vfm_types.specs.Deliveries.{machine_of}
-use Rattle.vfm_types.specs.Least.{all_below}
+use Rattle.vfm_base.specs.Least.{all_below}
 use Rattle.vfm_types.specs.Phases.{pass_count}
-use Rattle.vfm_types.specs.Arcs.{state_of, hold_of, level_of, is_running, is_p2p, is_stopped}
+use Rattle.vfm_types.specs.Arcs.{state_of, hold_of, effective_state, is_running, is_p2p, is_stopped}
 use Rattle.vfm_types.specs.Outstanding.{Outstanding, outstanding_of}
 use Rattle.vfm_types.specs.Marks.{set_size}
-use Rattle.vfm_types.specs.Blocks.{is_pass_ended}
+use Rattle.vfm_types.specs.Blocks.{is_no_pass_open}
 
 -- the list has nothing in it
 abbrev pub is_nothing : {X : Type 0} → List X → Bool
@@ -34,9 +34,9 @@ is_barred D d job = is_aimed_at_bar D job || not (shape_at D d).tells
 
 -- a job of device d may be issued at the device's level: any job in a running state, one that isn't barred in a
 -- peer-to-peer state, none in another
-abbrev pub is_allowed : Desc → ℕ → Job → List Entry → Bool
-is_allowed D d job past =
-    is_running (level_of d past) || (is_p2p (level_of d past) && not (is_barred D d job))
+abbrev pub is_job_allowed : Desc → ℕ → Job → List Entry → Bool
+is_job_allowed D d job past =
+    is_running (effective_state d past) || (is_p2p (effective_state d past) && not (is_barred D d job))
 
 -- a fence of device d is outstanding
 abbrev pub has_fence : Desc → ℕ → List Outstanding → Bool
@@ -65,7 +65,7 @@ all_stand_in D state past = all_below (device_count D) (λ d. same_state (state_
 abbrev pub is_decided : Desc → List Entry → Bool
 is_decided D past =
     D.rounds == 0
-    || (nat_lt 0 (pass_count past) && is_pass_ended D past
+    || (nat_lt 0 (pass_count past) && is_no_pass_open D past
     && (nat_le D.rounds (pass_count past) || nat_le (set_size D past) D.threshold))
 
 -- the next state of device d on its way to a state

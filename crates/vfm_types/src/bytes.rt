@@ -1,27 +1,27 @@
-//! Short byte strings that lie inside a value and take no memory of their own.
+//! Short byte strings under names of their own: device names, bytes to be written, what came in place of a frame.
 
 ghost use Rattle.std.specs.Prelude.{◌≡◌, ◌≤◌, ◌↔◌, length, IsTrue, IsSome, IfSome};
 ghost use Rattle.std.specs.List.{list_all};
 ghost use Rattle.vfm_types.specs.Bytes.{is_name_byte, is_name};
 
 use std::marker::Model;
+use vfm_base::ShortBytes;
 
 /// A device's name: 1 to 16 bytes, each of `a`-`z`, `0`-`9` or `_`. Seen as the list of its bytes.
 #[derive(Debug, Drop)]
 pub struct Name {
-    len: u8,
-    bytes: [u8; 16],
+    text: ShortBytes<16>,
 }
 
 impl Model for Name {
-    ghost use Rattle.std.specs.Prelude.{ℕ, List, take, ◌≤◌, IsTrue};
+    ghost use Rattle.std.specs.Prelude.{ℕ, List, IsTrue};
     ghost use Rattle.vfm_types.specs.Bytes.{is_name};
 
     ghost Value = { List ℕ };
 
-    ghost view = { λ n. take n.len n.bytes };
+    ghost view = { λ n. n.text };
 
-    ghost invariant = { λ n. (n.len ≤ 16) × IsTrue (is_name (take n.len n.bytes)) };
+    ghost invariant = { λ n. IsTrue (is_name n.text) };
 }
 
 impl Name {
@@ -33,13 +33,10 @@ impl Name {
         if !are_of_name(bytes) {
             return None;
         }
-        let len = bytes.len();
-        let mut copy = [0u8; 16];
-        copy[..len].copy_from_slice(bytes);
-        Some(Name {
-            len: len as u8,
-            bytes: copy,
-        })
+        match ShortBytes::<16>::of(bytes) {
+            Some(text) => Some(Name { text }),
+            None => unreachable!(),
+        }
     }
 
     /// The bytes.
@@ -47,7 +44,7 @@ impl Name {
         ensures value { result.now ≡ self.now }
         ensures known { IsTrue (is_name self.now) }
     {
-        &self.bytes[..self.len as usize]
+        self.text.bytes()
     }
 
     /// An equal name.
@@ -55,8 +52,7 @@ impl Name {
         ensures { result ≡ self.now }
     {
         Name {
-            len: self.len,
-            bytes: self.bytes,
+            text: self.text.copy(),
         }
     }
 }
@@ -86,18 +82,17 @@ fn may_stand_in_name(byte: u8) -> bool
 /// 1 to 64 bytes. Seen as the list of them.
 #[derive(Debug, Drop)]
 pub struct Bytes64 {
-    len: u8,
-    bytes: [u8; 64],
+    kept: ShortBytes<64>,
 }
 
 impl Model for Bytes64 {
-    ghost use Rattle.std.specs.Prelude.{ℕ, List, take, ◌≤◌, ◌<◌};
+    ghost use Rattle.std.specs.Prelude.{ℕ, List, length, ◌≤◌};
 
     ghost Value = { List ℕ };
 
-    ghost view = { λ b. take b.len b.bytes };
+    ghost view = { λ b. b.kept };
 
-    ghost invariant = { λ b. (0 < b.len) × (b.len ≤ 64) };
+    ghost invariant = { λ b. 1 ≤ length b.kept };
 }
 
 impl Bytes64 {
@@ -106,16 +101,13 @@ impl Bytes64 {
         ensures known { IsSome result ↔ (1 ≤ length bytes.now) × (length bytes.now ≤ 64) }
         ensures value { IfSome result (λ kept. kept ≡ bytes.now) }
     {
-        let len = bytes.len();
-        if len < 1 || len > 64 {
+        if bytes.len() < 1 {
             return None;
         }
-        let mut copy = [0u8; 64];
-        copy[..len].copy_from_slice(bytes);
-        Some(Bytes64 {
-            len: len as u8,
-            bytes: copy,
-        })
+        match ShortBytes::<64>::of(bytes) {
+            Some(kept) => Some(Bytes64 { kept }),
+            None => None,
+        }
     }
 
     /// The bytes.
@@ -124,7 +116,7 @@ impl Bytes64 {
         ensures least { 1 ≤ length self.now }
         ensures most { length self.now ≤ 64 }
     {
-        &self.bytes[..self.len as usize]
+        self.kept.bytes()
     }
 
     /// How many there are.
@@ -133,7 +125,7 @@ impl Bytes64 {
         ensures least { 1 ≤ result }
         ensures most { result ≤ 64 }
     {
-        u32::from(self.len)
+        self.kept.len()
     }
 
     /// Equal bytes.
@@ -141,62 +133,10 @@ impl Bytes64 {
         ensures { result ≡ self.now }
     {
         Bytes64 {
-            len: self.len,
-            bytes: self.bytes,
+            kept: self.kept.copy(),
         }
     }
 }
 
 /// Up to 44 bytes that came where a control frame should have come. Seen as the list of them.
-#[derive(Debug, Drop)]
-pub struct Heard44 {
-    len: u8,
-    bytes: [u8; 44],
-}
-
-impl Model for Heard44 {
-    ghost use Rattle.std.specs.Prelude.{ℕ, List, take, ◌≤◌};
-
-    ghost Value = { List ℕ };
-
-    ghost view = { λ h. take h.len h.bytes };
-
-    ghost invariant = { λ h. h.len ≤ 44 };
-}
-
-impl Heard44 {
-    /// These bytes, or `None` exactly where there are more than 44.
-    pub fn of(bytes: &[u8]) -> Option<Heard44>
-        ensures known { IsSome result ↔ (length bytes.now ≤ 44) }
-        ensures value { IfSome result (λ heard. heard ≡ bytes.now) }
-    {
-        let len = bytes.len();
-        if len > 44 {
-            return None;
-        }
-        let mut copy = [0u8; 44];
-        copy[..len].copy_from_slice(bytes);
-        Some(Heard44 {
-            len: len as u8,
-            bytes: copy,
-        })
-    }
-
-    /// The bytes.
-    pub fn bytes(&self) -> &[u8]
-        ensures value { result.now ≡ self.now }
-        ensures most { length self.now ≤ 44 }
-    {
-        &self.bytes[..self.len as usize]
-    }
-
-    /// Equal bytes.
-    pub fn copy(&self) -> Heard44
-        ensures { result ≡ self.now }
-    {
-        Heard44 {
-            len: self.len,
-            bytes: self.bytes,
-        }
-    }
-}
+pub type Heard44 = ShortBytes<44>;

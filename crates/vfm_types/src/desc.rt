@@ -4,26 +4,31 @@ ghost use Rattle.std.specs.Prelude.{[], ◌≡◌, ◌≢◌, ◌≤◌, ◌<◌
 ghost use Rattle.std.specs.List.{list_any};
 ghost use Rattle.std.specs.Cmp.Lexicographic.{pointwise};
 ghost use Rattle.vfm_types.specs.Desc.{bar_bytes, device_count, shape_at};
-ghost use Rattle.vfm_types.specs.Region.{region_of};
+ghost use Rattle.vfm_types.specs.Region.{region_of, place_in_bar};
 ghost use Rattle.vfm_types.specs.Job.{address_of, length_of, place_of, is_doorbell};
 ghost use Rattle.vfm_types.specs.declared.desc.Desc.{Desc};
-ghost use Rattle.vfm_types.specs.DescFault.{name_twice, spoils_bell, job_fault, jobs_fault, devices_fault, lacks_p2p, form_fault};
+ghost use Rattle.vfm_types.specs.DescFault.{name_twice, is_bell_misused, job_fault, jobs_fault, devices_fault, lacks_p2p, form_fault};
 ghost use Rattle.vfm_types.specs.Valid.{InRange, IsValid, is_job_in_range};
 
-use crate::{DescFault, DeviceId, Flags, Job, Jobs, Name, NoMemory, Place, Queue, Region, Shapes};
+use crate::{
+    Bars, DescFault, DeviceId, Flags, Job, Jobs, Name, NoMemory, Place, Queue, Region, Shapes,
+};
+use vfm_base::Duplicate;
 
-// the address of device 0's BAR, and how far the next one's is from it
+// the address of device 0's BAR 0, how far the next device's BARs are from it, and how far the next BAR
 const BAR_BASE: u64 = 0x1000_0000;
 
-const BAR_STRIDE: u64 = 0x8_0000;
+const DEVICE_STRIDE: u64 = 0x8_0000;
+
+const BAR_STRIDE: u64 = 0x1_0000;
 
 /// One device of a described machine.
 #[derive(Debug, Drop)]
 pub struct DevShape {
     pub name: Name,
     pub flags: Flags,
-    /// Bytes of its BAR: 64 to 65,536, a multiple of 64.
-    pub bar: u32,
+    /// The sizes of its BARs: each 64 to 65,536, a multiple of 64, and together at most 65,536.
+    pub bars: Bars,
     /// How many requests may be outstanding at a time: 1 to 8.
     pub window: u8,
     /// Whether the device can tell peer-to-peer DMA from other DMA.
@@ -37,23 +42,29 @@ pub struct DevShape {
 }
 
 impl DevShape {
-    /// Bytes of the device's BAR.
+    /// Bytes of all BARs of the device, which lie one after the other.
     pub fn bar_bytes(&self) -> u32
         ensures { result ≡ bar_bytes self.now }
     {
-        self.bar
+        self.bars.bytes()
     }
 
     /// An equal device.
     pub fn copy(&self) -> Result<DevShape, NoMemory>
         ensures { IfOk result (λ copy. copy ≡ self.now) }
     {
+        self.duplicate()
+    }
+}
+
+impl Duplicate for DevShape {
+    fn duplicate(&self) -> Result<DevShape, NoMemory> {
         let jobs = self.jobs.copy()?;
         let queue = self.queue.copy()?;
         Ok(DevShape {
             name: self.name.copy(),
             flags: self.flags,
-            bar: self.bar,
+            bars: self.bars.copy(),
             window: self.window,
             tells: self.tells,
             budget: self.budget,
@@ -105,27 +116,38 @@ impl Desc {
                 offset: offset as u32,
             });
         }
+        self.bar_of(at, len)
+    }
+
+    // the place of the 1 to 64 bytes from an address where they lie in one BAR
+    fn bar_of(&self, at: u64, len: u64) -> Option<Place>
+        requires in_range { InRange self.now }
+        requires some { 1 ≤ len }
+        requires few { len ≤ 64 }
+        ensures { result ≡ place_in_bar self.now at len }
+    {
         if at < BAR_BASE {
             return None;
         }
-        let owner = (at - BAR_BASE) / BAR_STRIDE;
+        let owner = (at - BAR_BASE) / DEVICE_STRIDE;
+        let number = (at - BAR_BASE) % DEVICE_STRIDE / BAR_STRIDE;
         let offset = (at - BAR_BASE) % BAR_STRIDE;
         if owner >= u64::from(self.devices.len()) {
             return None;
         }
-        let shape = self.devices.at(owner as u32);
-        if offset + len > u64::from(shape.bar_bytes()) {
+        let bars = &self.devices.at(owner as u32).bars;
+        if number >= u64::from(bars.len()) || offset + len > u64::from(bars.at(number as u32)) {
             return None;
         }
         Some(Place {
             region: Region::Bar(DeviceId(owner as u8)),
-            offset: offset as u32,
+            offset: bars.before(number as u32) + offset as u32,
         })
     }
 
     /// The same description, if it is valid; its first fault, exactly where it isn't. Each number and list is in its
     /// range already. The faults in their order: a name that stands twice, least device; by device and job, a range
-    /// that doesn't lie in one page or one BAR, a job aimed at its own device's BAR, and one that touches a doorbell
+    /// that doesn't lie in one page or one BAR, a job aimed at its own device's BARs, and one that touches a doorbell
     /// otherwise than by ringing it; a device without the peer-to-peer states among several. Takes no memory.
     pub fn new(desc: Desc) -> Result<Desc, DescFault>
         requires { InRange desc }
@@ -307,7 +329,7 @@ mod tests {
         let shape = DevShape {
             name: Name::of(b"nic_0").ok_or("name")?,
             flags: Flags::of(3).ok_or("flags")?,
-            bar: 128,
+            bars: Bars::of(&[128]).ok_or("bars")?,
             window: 2,
             tells: true,
             budget: 5,

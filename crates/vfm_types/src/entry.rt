@@ -2,7 +2,7 @@
 
 ghost use Rattle.std.specs.Prelude.{◌≡◌, ◌≢◌, ◌<◌, ◌≤◌, ◌^◌, ◌↔◌, ℕ, Some, IsTrue, IsSome, IfSome, IfNone};
 ghost use Rattle.vfm_types.specs.declared.entry.Entry.{Entry};
-ghost use Rattle.vfm_types.specs.Entry.{packed, entry_code, entry_of_code, low_entry_of, high_entry_of, entry_fits};
+ghost use Rattle.vfm_types.specs.Entry.{code_of_parts, entry_code, entry_of_code, low_entry_of, high_entry_of, entry_fits};
 ghost use Rattle.vfm_types.specs.RuleNumber.{rule_number, rule_of_number};
 
 use crate::{DeviceId, MigState};
@@ -89,7 +89,7 @@ impl Entry {
 // a kind, a device and a number in one number
 fn pack(kind: u64, d: DeviceId, n: u32) -> u64
     requires { kind < 2 ^ 24 }
-    ensures { result ≡ packed kind d n }
+    ensures { result ≡ code_of_parts kind d n }
 {
     kind * 0x100_0000_0000 + u64::from(d.0) * 0x1_0000_0000 + u64::from(n)
 }

@@ -85,3 +85,7 @@ pub enum LinkPlace {
     /// A control link.
     Control,
 }
+
+/// A link failed while something was sent over it or its sending side was closed.
+#[derive(Clone, Copy, Debug, PartialEq, Eq)]
+pub struct LinkFault;

@@ -4,7 +4,8 @@ ghost use Rattle.std.specs.Prelude.{◌≡◌, ◌≤◌, IsTrue};
 ghost use Rattle.vfm_types.specs.Job.{is_fence, address_of, length_of, is_writer, may_ring, is_bar, is_bar_of, is_bell};
 ghost use Rattle.vfm_types.specs.Valid.{is_job_in_range};
 
-use crate::{Bytes64, DeviceId};
+use crate::{Bytes64, DeviceId, NoMemory};
+use vfm_base::Duplicate;
 
 /// One DMA job of a device. A request is one accepted job.
 #[derive(Debug, Drop)]
@@ -37,6 +38,12 @@ impl Job {
                 value: *value,
             },
         }
+    }
+}
+
+impl Duplicate for Job {
+    fn duplicate(&self) -> Result<Job, NoMemory> {
+        Ok(self.copy())
     }
 }
 
@@ -92,11 +99,12 @@ impl Job {
 pub enum Region {
     /// In this page of memory.
     Page(u32),
-    /// In the BAR of this device.
+    /// In a BAR of this device.
     Bar(DeviceId),
 }
 
-/// A region, and how far into it a range begins, in bytes.
+/// A region, and how far into it a range begins, in bytes. The BARs of a device are one region: offsets count over all of
+/// them, one after the other.
 #[derive(Clone, Copy, Debug, PartialEq, Eq)]
 pub struct Place {
     pub region: Region,
@@ -104,14 +112,14 @@ pub struct Place {
 }
 
 impl Region {
-    /// Whether it is a BAR.
+    /// Whether it is the BARs of a device.
     pub fn is_bar(&self) -> bool
         ensures { result ≡ is_bar self.now }
     {
         matches!(self, Region::Bar(_))
     }
 
-    /// Whether it is the BAR of this device.
+    /// Whether it is the BARs of this device.
     pub fn is_bar_of(&self, d: DeviceId) -> bool
         ensures { result ≡ is_bar_of d self.now }
     {
@@ -123,7 +131,7 @@ impl Region {
 }
 
 impl Place {
-    /// Whether `len` bytes from here are a doorbell: the first 8 bytes of a BAR.
+    /// Whether `len` bytes from here are a doorbell: the first 8 bytes of a device's BAR 0.
     pub fn is_bell(&self, len: u32) -> bool
         ensures { result ≡ is_bell self.now len }
     {

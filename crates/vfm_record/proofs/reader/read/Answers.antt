@@ -1,7 +1,7 @@
 -- The tests and the spelling agree.
 use Rattle.std.proofs.Common.{◌≡◌, ap, ◌∙◌, arith}
-use Rattle.vfm_record.specs.Words.{IsBytes}
-use Rattle.vfm_record.specs.Record.{Record, spelling, IsRecordOf}
+use Rattle.vfm_base.specs.Words.{IsBytes}
+use Rattle.vfm_record.specs.Record.{Record, record_bytes, IsRecordOf}
 use Rattle.vfm_record.specs.Tests.{record_fault, record_at}
 use Rattle.vfm_record.proofs.Found.{found}
 use Rattle.vfm_record.proofs.Again.{again}
@@ -14,7 +14,7 @@ returns-clause-found c =
     let stream = c.args.stream in
     let bytes = c.args.bytes.now in
     let fits : IsBytes bytes = λ i. omega (arith, c.type_inv.bytes i) in
-    let P : Record → Type 0 = λ r. IsRecordOf D stream r × (bytes ≡ spelling r) in
+    let P : Record → Type 0 = λ r. IsRecordOf D stream r × (bytes ≡ record_bytes r) in
     given P c.tested.result (record_fault D stream bytes) (record_at stream bytes) c.tested.ensures (found D stream bytes fits)
 
 pub returns-clause-only : goal.returns-clause-only

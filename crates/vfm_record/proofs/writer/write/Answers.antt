@@ -1,20 +1,20 @@
 -- The spelling of a record in its two parts.
 use Rattle.std.proofs.Common.{◌≡◌, ℕ, ◌+◌, ◌<◌, List, ◌++◌, length, vec_len, vec_capacity, OnOk, OnErr, sym, ap, ◌∙◌, subst, length-append}
 use Rattle.vfm_record.specs.declared.record.Rec.{Rec}
-use Rattle.vfm_record.specs.Record.{spelling, record_of}
-use Rattle.vfm_record.proofs.Pairs.{pending_spelled}
+use Rattle.vfm_record.specs.Record.{record_bytes, record_of}
+use Rattle.vfm_record.proofs.Pairs.{pending_encoded}
 use Rattle.vfm_record.proofs.writer.write.Goals as goal
 
 pub returns-in-Engine-clause-ok : goal.returns-in-Engine-clause-ok
 returns-in-Engine-clause-ok c = rw (c.in-Engine.is) (rw c.engine_head.ensures at c.put-in-Engine.ensures.ok)
 
 -- head and bytes spell the pending requests
-parts : (c : goal.After-put-in-Pending) → c.pending_head.result ++ c.in-Pending.bytes.now ≡ spelling (record_of c.args.r.now)
+parts : (c : goal.After-put-in-Pending) → c.pending_head.result ++ c.in-Pending.bytes.now ≡ record_bytes (record_of c.args.r.now)
 parts c =
     let writable = rw c.in-Pending.is at c.requires in
     ap (λ (l : List ℕ). l ++ c.in-Pending.bytes.now) c.pending_head.ensures
-    ∙ pending_spelled c.in-Pending.count c.in-Pending.bytes.now writable.2 c.put-in-Pending.ensures.bytes
-    ∙ ap (λ (r : Rec). spelling (record_of r)) (sym c.in-Pending.is)
+    ∙ pending_encoded c.in-Pending.count c.in-Pending.bytes.now writable.2 c.put-in-Pending.ensures.bytes
+    ∙ ap (λ (r : Rec). record_bytes (record_of r)) (sym c.in-Pending.is)
 
 pub returns-in-Pending-clause-ok : goal.returns-in-Pending-clause-ok
 returns-in-Pending-clause-ok c =

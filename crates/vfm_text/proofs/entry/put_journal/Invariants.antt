@@ -4,4 +4,4 @@ use Rattle.vfm_plain.specs.EntryText.{journal_text}
 use Rattle.vfm_text.proofs.entry.put_journal.Given as goal
 
 abbrev pub invariant-loop-entry : goal.invariant-loop-entry
-invariant-loop-entry g l = g.P.Pen.takes l.fn.pen l.pen (journal_text (take l.entry-index l.entry-items))
+invariant-loop-entry g l = g.P.TextWriter.takes l.fn.writer l.writer (journal_text (take l.entry-index l.entry-items))

@@ -5,4 +5,4 @@ use Rattle.vfm_text.proofs.piece.put_all.Given as goal
 
 abbrev pub invariant-loop-piece : goal.invariant-loop-piece
 invariant-loop-piece g l =
-    g.P.Pen.takes l.fn.pen l.pen (flat_map (λ piece. piece.now) (take l.piece-index l.pieces))
+    g.P.TextWriter.takes l.fn.writer l.writer (flat_map (λ piece. piece.now) (take l.piece-index l.pieces))

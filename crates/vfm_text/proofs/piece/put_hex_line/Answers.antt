@@ -8,24 +8,24 @@ use Rattle.vfm_text.proofs.piece.put_hex_line.Goals as goal
 pub returns-in_err-put_all : goal.returns-in_err-put_all
 returns-in_err-put_all g c =
     let p = err_from_is_err_and c.from_residual.result c.from_residual.ensures.1 in
-    let pen = g.met.P.Pen in
+    let writer = g.met.P.TextWriter in
     rw (p.1, hex-line c.args.word.now (decimal c.args.number) (encode_lower c.args.bytes.now)) (
-    pen.stop_before _ _ _ _ (pen.stop_before _ _ _ _ (rw (c.as_bytes.ensures.value, c.format.ensures.text) at c.in_err-put_all.ensures))
+    writer.stop_before _ _ _ _ (writer.stop_before _ _ _ _ (rw (c.as_bytes.ensures.value, c.format.ensures.text) at c.in_err-put_all.ensures))
     )
 
 pub returns-in_err-put_hex : goal.returns-in_err-put_hex
 returns-in_err-put_hex g c =
     let p = err_from_is_err_and c.from_residual-in_err-put_hex.result c.from_residual-in_err-put_hex.ensures.1 in
-    let pen = g.met.P.Pen in
+    let writer = g.met.P.TextWriter in
     rw (p.1, hex-line c.args.word.now (decimal c.args.number) (encode_lower c.args.bytes.now)) (
-    pen.stop_before _ _ _ _ (pen.stop_after _ _ _ _ _ (rw (c.as_bytes.ensures.value, c.format.ensures.text) at c.in_ok-put_all.ensures) c.in_err-put_hex.ensures)
+    writer.stop_before _ _ _ _ (writer.stop_after _ _ _ _ _ (rw (c.as_bytes.ensures.value, c.format.ensures.text) at c.in_ok-put_all.ensures) c.in_err-put_hex.ensures)
     )
 
 pub returns : goal.returns
 returns g c =
-    let pen = g.met.P.Pen in
+    let writer = g.met.P.TextWriter in
     rw (hex-line c.args.word.now (decimal c.args.number) (encode_lower c.args.bytes.now)) (
     MatchResult-weaker c.put.result c.put.ensures
-    (λ _ h. pen.more _ _ _ _ _ (pen.more _ _ _ _ _ (rw (c.as_bytes.ensures.value, c.format.ensures.text) at c.in_ok-put_all.ensures) c.in_ok-put_hex.ensures) h)
-    (λ _ h. pen.stop_after _ _ _ _ _ (pen.more _ _ _ _ _ (rw (c.as_bytes.ensures.value, c.format.ensures.text) at c.in_ok-put_all.ensures) c.in_ok-put_hex.ensures) h)
+    (λ _ h. writer.more _ _ _ _ _ (writer.more _ _ _ _ _ (rw (c.as_bytes.ensures.value, c.format.ensures.text) at c.in_ok-put_all.ensures) c.in_ok-put_hex.ensures) h)
+    (λ _ h. writer.stop_after _ _ _ _ _ (writer.more _ _ _ _ _ (rw (c.as_bytes.ensures.value, c.format.ensures.text) at c.in_ok-put_all.ensures) c.in_ok-put_hex.ensures) h)
     )

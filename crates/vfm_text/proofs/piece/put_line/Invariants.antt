@@ -5,4 +5,4 @@ use Rattle.vfm_text.proofs.piece.put_line.Given as goal
 
 abbrev pub invariant-loop-word : goal.invariant-loop-word
 invariant-loop-word g l =
-    g.P.Pen.takes l.fn.pen l.pen (l.first ++ flat_map (λ word. 32 ∷ word) (map (λ word. word.now) (take l.word-index l.words)))
+    g.P.TextWriter.takes l.fn.writer l.writer (l.first ++ flat_map (λ word. 32 ∷ word) (map (λ word. word.now) (take l.word-index l.words)))

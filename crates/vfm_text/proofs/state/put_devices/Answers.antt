@@ -1,4 +1,4 @@
--- A device more, and a device that stops the pen.
+-- A device more, and a device that stops the writer.
 use Rattle.std.proofs.Common.{add-one, zero-add, arith}
 use Rattle.std.proofs.lemmas.Result.{err_from_is_err_and}
 use Rattle.vfm_types.specs.Machine.{no_device}
@@ -9,13 +9,13 @@ use Rattle.vfm_text.proofs.state.put_devices.Goals as goal
 pub returns-in_err-put_device : goal.returns-in_err-put_device
 returns-in_err-put_device g c =
     let p = err_from_is_err_and c.from_residual.result c.from_residual.ensures.1 in
-    let pen = g.met.P.Pen in
+    let writer = g.met.P.TextWriter in
     rw (p.1, numbered-parts (described_text c.args.desc.now) 0 c.args.plain.now.devices c.loop-d.d no_device (omega arith), zero-add) (
-    pen.stop_before _ _ _ _ (pen.stop_after _ _ _ _ _ c.loop-d.invariant c.in_err-put_device.ensures)
+    writer.stop_before _ _ _ _ (writer.stop_after _ _ _ _ _ c.loop-d.invariant c.in_err-put_device.ensures)
     )
 
 pub loop-d-preserved : goal.loop-d-preserved
 loop-d-preserved g c =
     rw (add-one, numbered-more (described_text c.args.desc.now) 0 c.args.plain.now.devices c.loop-d.d no_device (omega arith), zero-add) (
-    g.met.P.Pen.more _ _ _ _ _ c.loop-d.invariant c.in_ok-put_device.ensures
+    g.met.P.TextWriter.more _ _ _ _ _ c.loop-d.invariant c.in_ok-put_device.ensures
     )

@@ -1,4 +1,4 @@
--- A page more, and a page that stops the pen.
+-- A page more, and a page that stops the writer.
 use Rattle.std.proofs.Common.{[], add-one, zero-add, arith}
 use Rattle.std.proofs.lemmas.Result.{err_from_is_err_and}
 use Rattle.vfm_plain.specs.StateText.{page_line}
@@ -8,13 +8,13 @@ use Rattle.vfm_text.proofs.state.put_pages.Goals as goal
 pub returns-in_err-put_hex_line : goal.returns-in_err-put_hex_line
 returns-in_err-put_hex_line g c =
     let p = err_from_is_err_and c.from_residual.result c.from_residual.ensures.1 in
-    let pen = g.met.P.Pen in
+    let writer = g.met.P.TextWriter in
     rw (p.1, numbered-parts page_line 0 c.args.plain.now.pages c.loop-p.p [] (omega arith), zero-add) (
-    pen.stop_before _ _ _ _ (pen.stop_after _ _ _ _ _ c.loop-p.invariant (rw c.page.ensures at c.in_err-put_hex_line.ensures))
+    writer.stop_before _ _ _ _ (writer.stop_after _ _ _ _ _ c.loop-p.invariant (rw c.page.ensures at c.in_err-put_hex_line.ensures))
     )
 
 pub loop-p-preserved : goal.loop-p-preserved
 loop-p-preserved g c =
     rw (add-one, numbered-more page_line 0 c.args.plain.now.pages c.loop-p.p [] (omega arith), zero-add) (
-    g.met.P.Pen.more _ _ _ _ _ c.loop-p.invariant (rw c.page.ensures at c.in_ok-put_hex_line.ensures)
+    g.met.P.TextWriter.more _ _ _ _ _ c.loop-p.invariant (rw c.page.ensures at c.in_ok-put_hex_line.ensures)
     )

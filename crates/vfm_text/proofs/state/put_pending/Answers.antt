@@ -1,4 +1,4 @@
--- A request that stops the pen stops them all.
+-- A request that stops the writer stops them all.
 use Rattle.std.proofs.Common.{arith}
 use Rattle.std.proofs.lemmas.Result.{err_from_is_err_and}
 use Rattle.vfm_plain.specs.StateText.{pending_line}
@@ -8,7 +8,7 @@ use Rattle.vfm_text.proofs.state.put_pending.Goals as goal
 pub returns-in_err-put_request : goal.returns-in_err-put_request
 returns-in_err-put_request g c =
     let p = err_from_is_err_and c.from_residual.result c.from_residual.ensures.1 in
-    let pen = g.met.P.Pen in
+    let writer = g.met.P.TextWriter in
     rw (p.1, parts (pending_line c.args.d) c.args.pending.now c.loop-request.request-index (0, 0) (omega arith)) (
-    pen.stop_before _ _ _ _ (pen.stop_after _ _ _ _ _ c.loop-request.invariant c.in_err-put_request.ensures)
+    writer.stop_before _ _ _ _ (writer.stop_after _ _ _ _ _ c.loop-request.invariant c.in_err-put_request.ensures)
     )

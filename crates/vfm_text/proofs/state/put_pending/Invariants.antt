@@ -5,4 +5,4 @@ use Rattle.vfm_plain.specs.StateText.{pending_line}
 use Rattle.vfm_text.proofs.state.put_pending.Given as goal
 
 abbrev pub invariant-loop-request : goal.invariant-loop-request
-invariant-loop-request g l = g.P.Pen.takes l.fn.pen l.pen (flat_map (pending_line l.d) (take l.request-index l.pending))
+invariant-loop-request g l = g.P.TextWriter.takes l.fn.writer l.writer (flat_map (pending_line l.d) (take l.request-index l.pending))

@@ -7,4 +7,4 @@ use Rattle.vfm_top.proofs.line.put_path.Given as goal
 
 abbrev pub invariant-loop-i : goal.invariant-loop-i
 invariant-loop-i g l =
-    g.P.Pen.takes l.fn.pen l.pen (codes "path" ++ flat_map (λ word. 32 ∷ word) (map state_name (take l.i l.route)))
+    g.P.TextWriter.takes l.fn.writer l.writer (codes "path" ++ flat_map (λ word. 32 ∷ word) (map state_name (take l.i l.route)))

@@ -1,0 +1,4 @@
+-- The lemmas of this crate.
+pub mod NumbersWhere
+pub mod PageWords
+pub mod LeastPages

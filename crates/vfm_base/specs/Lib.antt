@@ -1,0 +1,4 @@
+pub mod Least
+pub mod PageSet
+pub mod Words
+pub mod Tests

@@ -1,0 +1,19 @@
+//! The error that memory ran out.
+
+use std::alloc::{AllocError, AllocFailed};
+
+/// Memory ran out. Every crate answers this one type.
+#[derive(Clone, Copy, Debug, PartialEq, Eq)]
+pub struct NoMemory;
+
+impl From<AllocError> for NoMemory {
+    fn from(_error: AllocError) -> Self {
+        NoMemory
+    }
+}
+
+impl<T: Drop> From<AllocFailed<T>> for NoMemory {
+    fn from(_error: AllocFailed<T>) -> Self {
+        NoMemory
+    }
+}

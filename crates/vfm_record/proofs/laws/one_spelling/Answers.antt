@@ -1,6 +1,0 @@
--- The law of spellings.
-use Rattle.vfm_record.proofs.Again as again
-use Rattle.vfm_record.proofs.laws.one_spelling.Goals as goal
-
-pub returns : goal.returns
-returns c r s fits_r fits_s same = again.one_spelling r s fits_r fits_s same

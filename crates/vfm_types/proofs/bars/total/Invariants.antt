@@ -1,0 +1,7 @@
+-- The sizes before this one are added up.
+use Rattle.std.proofs.Common.{◌≡◌, take}
+use Rattle.std.specs.Prelude.{sum}
+use Rattle.vfm_types.proofs.bars.total.Given as goal
+
+abbrev pub invariant-loop-size : goal.invariant-loop-size
+invariant-loop-size l = l.total ≡ sum (take l.size-index l.sizes)

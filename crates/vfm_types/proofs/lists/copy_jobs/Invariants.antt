@@ -1,6 +1,0 @@
--- The jobs before this one are copied.
-use Rattle.std.proofs.Common.{◌≡◌, take}
-use Rattle.vfm_types.proofs.lists.copy_jobs.Given as goal
-
-abbrev pub invariant-loop-job : goal.invariant-loop-job
-invariant-loop-job l = l.copy.items ≡ take l.job-index l.jobs
