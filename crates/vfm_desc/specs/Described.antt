@@ -10,13 +10,13 @@ use Rattle.vfm_types.specs.declared.job.Job.{Job}
 use Rattle.vfm_types.specs.declared.job.Job.TheVariants as job
 use Rattle.vfm_types.specs.declared.fault.DescFault.{DescFault}
 use Rattle.vfm_types.specs.declared.fault.DescFault.TheVariants as fault
-use Rattle.vfm_types.specs.declared.fault.FieldName.TheVariants.{Session, Page, Pages, Channels, Version, Begin, Rounds, Threshold, Devices, Flags, Bar, Window, Budget, Fails, Jobs, Queue, At, Len, Value}
+use Rattle.vfm_types.specs.declared.fault.FieldName.TheVariants.{Session, Page, Pages, Channels, Version, Begin, Rounds, Threshold, Devices, Flags, Window, Budget, Fails, Jobs, Queue, At, Len, Value}
 use Rattle.vfm_types.specs.DescFault.{form_fault}
 use Rattle.vfm_desc.specs.declared.reading.JobKind.{JobKind}
 use Rattle.vfm_desc.specs.declared.reading.JobKind.TheVariants.{Write, Read, Store, Add}
 use Rattle.vfm_desc.specs.declared.reading.Level.{Level}
 use Rattle.vfm_desc.specs.declared.reading.Level.TheVariants.{Top, OfDevice, OfJob}
-use Rattle.vfm_desc.specs.Reading.{◌>>=◌, field_at, check, whole_number, number_in, tells_in, name_in, bytes_in, kind_in, list_in, each}
+use Rattle.vfm_desc.specs.Reading.{◌>>=◌, field_at, check, whole_number, number_in, tells_in, name_in, bars_in, bytes_in, kind_in, list_in, each}
 
 -- what a job of this kind at this address does
 unfoldable pub work_in : Data → Level → JobKind → ℕ → Result Job DescFault
@@ -65,14 +65,14 @@ unfoldable pub device_in : ℕ → Data → Result DevShape DescFault
 device_in d holder = do
   name ← name_in holder (OfDevice d)
   flags ← number_in holder (OfDevice d) Flags
-  bar ← number_in holder (OfDevice d) Bar
+  bars ← bars_in holder (OfDevice d)
   window ← number_in holder (OfDevice d) Window
   tells ← tells_in holder (OfDevice d)
   budget ← number_in holder (OfDevice d) Budget
   fails ← number_in holder (OfDevice d) Fails
   jobs ← jobs_in d holder
   queue ← queue_in d holder budget (length jobs)
-  Ok (record { name = name; flags = flags; bar = bar; window = window; tells = tells; budget = budget; fails = fails; jobs = jobs; queue = queue })
+  Ok (record { name = name; flags = flags; bars = bars; window = window; tells = tells; budget = budget; fails = fails; jobs = jobs; queue = queue })
 
 -- the devices
 unfoldable pub devices_in : Data → Result (List DevShape) DescFault

@@ -1,4 +1,4 @@
-pub mod Ranges
+pub mod Members
 pub mod Built
 pub mod BuiltForms
 pub mod Reading

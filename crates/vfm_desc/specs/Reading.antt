@@ -11,13 +11,14 @@ use Rattle.vfm_types.specs.declared.fault.DescFault.{DescFault}
 use Rattle.vfm_types.specs.declared.fault.DescFault.TheVariants as fault
 use Rattle.vfm_types.specs.declared.fault.Field.{Field}
 use Rattle.vfm_types.specs.declared.fault.FieldName.{FieldName}
-use Rattle.vfm_types.specs.declared.fault.FieldName.TheVariants.{Name, Tells, Queue, Kind, Hex}
+use Rattle.vfm_types.specs.declared.fault.FieldName.TheVariants.{Name, Bar, Tells, Queue, Kind, Hex}
 use Rattle.vfm_types.specs.Bytes.{is_name}
 use Rattle.vfm_desc.specs.declared.reading.JobKind.{JobKind}
 use Rattle.vfm_desc.specs.declared.reading.JobKind.TheVariants.{Write, Read, Store, Add}
 use Rattle.vfm_desc.specs.declared.reading.Level.{Level}
 use Rattle.vfm_desc.specs.declared.reading.Level.TheVariants.{Top, OfDevice, OfJob}
-use Rattle.vfm_desc.specs.Ranges.{member_name, is_in_range}
+use Rattle.vfm_types.specs.Ranges.{takes, most_bars, are_bar_sizes}
+use Rattle.vfm_desc.specs.Members.{member_name}
 use Rattle.vfm_desc.specs.Built.{is_built, is_kind_built}
 
 -- the next step, where the one before found no fault
@@ -59,7 +60,7 @@ whole_number field value = do
 -- the number is one that the member takes, and is built
 unfoldable pub ranged : Level → FieldName → ℕ → Result ℕ DescFault
 ranged level name n = do
-  taken ← check (is_in_range name n) (fault.Range (field_at level name))
+  taken ← check (takes name n) (fault.Range (field_at level name))
   built ← check (is_built name n) (fault.NotYet (field_at level name))
   Ok n
 
@@ -120,8 +121,9 @@ abbrev pub elements : Items → List Data
 elements no_items = []
 elements (item value values) = value ∷ elements values
 
--- an element of a list is of the JSON kind that the list takes: a queue numbers, the other lists objects
+-- an element of a list is of the JSON kind that the list takes: BARs and a queue numbers, the other lists objects
 abbrev pub is_element : FieldName → Data → Bool
+is_element Bar value = is_some (as_number value)
 is_element Queue value = is_some (as_number value)
 is_element _ value = is_some (as_object value)
 
@@ -147,3 +149,39 @@ each read k (value ∷ values) = do
   first ← read k value
   rest ← each read (k + 1) values
   Ok (first ∷ rest)
+
+-- the size of a BAR
+unfoldable pub size_in : Level → Data → Result ℕ DescFault
+size_in level value = do
+  n ← whole_number (field_at level Bar) value
+  ranged level Bar n
+
+-- these sizes, where a device may have BARs of them
+unfoldable pub sizes_together : Level → List ℕ → Result (List ℕ) DescFault
+sizes_together level sizes = do
+  together ← check (are_bar_sizes sizes) (fault.Range (field_at level Bar))
+  Ok sizes
+
+-- a number alone is the size of the only BAR
+unfoldable pub only_size : Level → Data → Result (List ℕ) DescFault
+only_size level value = do
+  size ← size_in level value
+  sizes_together level (size ∷ [])
+
+-- a list gives the sizes of the BARs in order
+unfoldable pub listed_sizes : Level → Data → Result (List ℕ) DescFault
+listed_sizes level value = do
+  list ← elements_of value level Bar
+  few ← check (nat_le (length list) most_bars) (fault.Range (field_at level Bar))
+  sizes ← each (λ k. size_in level) 0 list
+  sizes_together level sizes
+
+-- the sizes that a value gives
+unfoldable pub sizes_in : Level → Data → Result (List ℕ) DescFault
+sizes_in level value = if is_some (as_number value) then only_size level value else listed_sizes level value
+
+-- the sizes of a device's BARs
+unfoldable pub bars_in : Data → Level → Result (List ℕ) DescFault
+bars_in holder level = do
+  value ← member_of holder level Bar
+  sizes_in level value

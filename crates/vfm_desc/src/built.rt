@@ -11,7 +11,11 @@ pub(crate) fn is_built(name: FieldName, n: u64) -> bool
     ensures { result ≡ spec.is_built name n }
 {
     match name {
-        FieldName::Channels | FieldName::Devices | FieldName::Flags | FieldName::Window => n == 1,
+        FieldName::Channels
+        | FieldName::Version
+        | FieldName::Devices
+        | FieldName::Flags
+        | FieldName::Window => n == 1,
         FieldName::Rounds | FieldName::Fails => n == 0,
         _ => true,
     }

@@ -11,6 +11,7 @@ ghost use Rattle.vfm_desc.specs.BuiltForms.{IsShapeBuilt, is_write};
 ghost use Rattle.vfm_desc.specs.Reading.{Gives, each, number_in};
 ghost use Rattle.vfm_desc.specs.Described as spec;
 
+use crate::sizes::bars;
 use crate::reading::{JobKind, Level, bytes, kind, list, name, number, tells, whole_number};
 use serde_json::Value;
 use std::alloc::Global;
@@ -160,7 +161,7 @@ fn device(alloc: Global, object: &Value, d: u32) -> Result<DevShape, DescFault>
     let level = Level::OfDevice(d);
     let name = name(object, level)?;
     let flags = flags(object, level)?;
-    let bar = number(object, level, FieldName::Bar)? as u32;
+    let bars = bars(alloc, object, level)?;
     let window = number(object, level, FieldName::Window)? as u8;
     let tells = tells(object, level)?;
     let budget = number(object, level, FieldName::Budget)? as u32;
@@ -170,7 +171,7 @@ fn device(alloc: Global, object: &Value, d: u32) -> Result<DevShape, DescFault>
     Ok(DevShape {
         name,
         flags,
-        bar,
+        bars,
         window,
         tells,
         budget,

@@ -7,13 +7,14 @@ ghost use Rattle.serde_json.specs.Data.{Data};
 ghost use Rattle.serde_json.specs.View.{view};
 ghost use Rattle.vfm_types.specs.declared.fault.DescFault.TheVariants.{Range};
 ghost use Rattle.vfm_types.specs.Bytes.{is_name};
-ghost use Rattle.vfm_desc.specs.Ranges.{least, most, has_form};
+ghost use Rattle.vfm_types.specs.Ranges.{least, most, has_form, takes};
+ghost use Rattle.vfm_types.specs.declared.fault.FieldName.TheVariants as field;
 ghost use Rattle.vfm_desc.specs.Built.{is_built, is_kind_built};
 ghost use Rattle.vfm_desc.specs.Reading as spec;
 ghost use Rattle.vfm_desc.specs.Reading.{Gives};
 
 use crate::built::{is_built, is_kind_built};
-use crate::ranges::{is_in_range, member_name};
+use crate::members::member_name;
 use hex::FromHexError;
 use serde_json::Value;
 use std::alloc::Global;
@@ -60,9 +61,9 @@ pub(crate) enum JobKind {
     Add,
 }
 
-// the member's value
+/// The member's value.
 #[tactic(auto, unfolding(crate::specs::Reading::member_of))]
-fn member(object: &Value, level: Level, name: FieldName) -> Result<&Value, DescFault>
+pub(crate) fn member(object: &Value, level: Level, name: FieldName) -> Result<&Value, DescFault>
     ensures { Gives (λ value. view value.now) result (spec.member_of (view object.now) level name) }
 {
     object
@@ -79,9 +80,9 @@ pub(crate) fn whole_number(value: &Value, field: Field) -> Result<u64, DescFault
     number.as_u64().ok_or(DescFault::Range(field))
 }
 
-// the number, where the member takes it and it is built
+/// The number, where the member takes it and it is built.
 #[tactic(auto, unfolding(crate::specs::Reading::ranged))]
-fn ranged(level: Level, name: FieldName, n: u64) -> Result<u64, DescFault>
+pub(crate) fn ranged(level: Level, name: FieldName, n: u64) -> Result<u64, DescFault>
     ensures value { Gives (λ n. n) result (spec.ranged level name n) }
     ensures low { IfOk result (λ n. least name ≤ n) }
     ensures high { IfOk result (λ n. n ≤ most name) }
@@ -89,7 +90,7 @@ fn ranged(level: Level, name: FieldName, n: u64) -> Result<u64, DescFault>
     ensures built { IfOk result (λ n. IsTrue (is_built name n)) }
     ensures same { IfOk result (λ m. m ≡ n) }
 {
-    if !is_in_range(name, n) {
+    if !name.takes(n) {
         return Err(DescFault::Range(level.field(name)));
     }
     if !is_built(name, n) {
@@ -156,7 +157,7 @@ pub(crate) fn bytes(alloc: Global, object: &Value, level: Level) -> Result<Bytes
     bytes_of_hex(alloc, digits, level.field(FieldName::Hex))
 }
 
-// the bytes that the digits spell
+// the bytes that the digits encode
 fn bytes_of_hex(alloc: Global, digits: &str, field: Field) -> Result<Bytes64, DescFault>
     ensures value { Gives (λ bytes. bytes) result (ok_or (spec.bytes_of_hex digits.now) (Range field)) }
     ensures least { IfOk result (λ bytes. 1 ≤ length bytes) }
@@ -217,9 +218,9 @@ pub(crate) fn list(object: &Value, level: Level, name: FieldName) -> Result<&[Va
     Ok(list)
 }
 
-// the elements of a value that is a list, all of their kind
+/// The elements of a value that is a list, all of their kind.
 #[tactic(auto, unfolding(crate::specs::Reading::elements_of))]
-fn elements(value: &Value, level: Level, name: FieldName) -> Result<&[Value], DescFault>
+pub(crate) fn elements(value: &Value, level: Level, name: FieldName) -> Result<&[Value], DescFault>
     ensures { Gives (λ list. map view list.now) result (spec.elements_of (view value.now) level name) }
 {
     let list = value
@@ -244,7 +245,7 @@ fn is_element(name: FieldName, value: &Value) -> bool
     ensures { result ≡ spec.is_element name (view value.now) }
 {
     match name {
-        FieldName::Queue => value.is_number(),
+        FieldName::Bar | FieldName::Queue => value.is_number(),
         _ => value.is_object(),
     }
 }

@@ -28,7 +28,7 @@ use Rattle.vfm_plain.specs.CopyRules.{is_copy_due}
 use Rattle.vfm_plain.specs.BlockRules.{is_part_due}
 use Rattle.vfm_solo.specs.declared.engine.Engine.{Engine}
 use Rattle.vfm_solo.specs.Solo.{IsSolo}
-use Rattle.vfm_solo.specs.Follows.{Stage, Follows, Unpassed, Copied, InPass, on_bus, waiting_stage, readable, joined, taken_over, halted, home}
+use Rattle.vfm_solo.specs.Follows.{Stage, Follows, Unpassed, Copied, InPass, on_bus, waiting_stage, readable, joined, taken_over, halted, resumed_running}
 use Rattle.vfm_solo.proofs.Requests.{holds, itself}
 use Rattle.vfm_solo.proofs.Least.{least_none, least_some, below_next, not_below_next, none_below, below_and_not, and_false}
 
@@ -84,7 +84,7 @@ pass_copied D past e h u =
       all = λ p. refl;
       copied = λ p. sym (none_below p);
       part = ap (λ (b : Bool). b || same_state (state_of 0 past) PreCopy) h.joint;
-      wet = refl;
+      not_dry = refl;
       read = refl;
       unread = λ b. u.unread b ∙ ap not (sym (none_below b));
       clean = u.clean;
@@ -128,7 +128,7 @@ copy_copied D past p k =
       all = k.all;
       copied = λ q. ap (λ (b : Bool). p == q || b) (k.copied q) ∙ below_next p q;
       part = k.part;
-      wet = k.wet;
+      not_dry = k.not_dry;
       read = k.read;
       unread = k.unread;
       clean = k.clean;
@@ -144,7 +144,7 @@ none_to_copy D past b k =
 part_left : (D : Desc) (past : List Entry) (p b : ℕ) → Copied D past p b → has_part D 0 past ≡ nat_lt b (block_count (shape_at D 0))
 part_left D past p b k =
     ap (λ (v : Bool). v && not (was_dry 0 past) && nat_lt (blocks_read 0 past) (block_count (shape_at D 0))) k.part
-    ∙ ap (λ (v : Bool). not v && nat_lt (blocks_read 0 past) (block_count (shape_at D 0))) k.wet
+    ∙ ap (λ (v : Bool). not v && nat_lt (blocks_read 0 past) (block_count (shape_at D 0))) k.not_dry
     ∙ ap (λ (n : ℕ). nat_lt n (block_count (shape_at D 0))) k.read
 
 pub block_follows : (D : Desc) (past : List Entry) (e f : Engine) (b : ℕ) → IsSolo D → b < block_count (shape_at D 0) → Follows D past joined e → Copied D past D.pages b → f.plain ≡ e.plain → f.flight ≡ e.flight → Follows D (Block 0 b ∷ past) joined f
@@ -191,7 +191,7 @@ block_copied D past p b k =
       all = k.all;
       copied = k.copied;
       part = k.part;
-      wet = k.wet;
+      not_dry = k.not_dry;
       read = ap (λ (n : ℕ). n + 1) k.read;
       unread = λ c. ap (λ (v : Bool). not (b == c) && v) (k.unread c) ∙ not_below_next b c;
       clean = λ c. ap (λ (v : Bool). not (b == c) && v) (k.clean c) ∙ and_false (not (b == c));
@@ -246,7 +246,7 @@ halt_follows D past e f solo h plain flight =
     fault : fault_of D past (Arc 0 Stop) ≡ None
     fault = rw (h.begun, h.aborted, h.resumed, h.state) refl
 
-pub home_follows : (D : Desc) (past : List Entry) (e f : Engine) → IsSolo D → Follows D past halted e → f.plain ≡ e.plain → f.flight ≡ e.flight → Follows D (Arc 0 Running ∷ past) home f
+pub home_follows : (D : Desc) (past : List Entry) (e f : Engine) → IsSolo D → Follows D past halted e → f.plain ≡ e.plain → f.flight ≡ e.flight → Follows D (Arc 0 Running ∷ past) resumed_running f
 home_follows D past e f solo h plain flight =
     record {
       legal = (lt-ltb _ _ (omega (arith, solo.count)), fault, h.legal);
@@ -314,7 +314,7 @@ same_follows D past stage e f h plain flight =
     }
 
 -- the run has ended
-pub home_ended : (D : Desc) (past : List Entry) (e : Engine) → IsSolo D → Follows D past home e → e.flight ≡ Empty → (device_of e.plain 0).pending ≡ [] → has_ended D past ≡ true
+pub home_ended : (D : Desc) (past : List Entry) (e : Engine) → IsSolo D → Follows D past resumed_running e → e.flight ≡ Empty → (device_of e.plain 0).pending ≡ [] → has_ended D past ≡ true
 home_ended D past e solo h empty none =
     let bus : outstanding_of D 0 past ≡ [] = h.bus ∙ ap on_bus empty in
     let nothing : is_idle D 0 past ≡ true =

@@ -65,7 +65,7 @@ pub record Copied (D : Desc) (past : List Entry) (pages blocks : ℕ) : Type 0 w
   pub all : (p : ℕ) → is_in_set D p past ≡ nat_lt p D.pages
   pub copied : (p : ℕ) → is_copied p past ≡ nat_lt p pages
   pub part : takes_part 0 past ≡ true
-  pub wet : was_dry 0 past ≡ false
+  pub not_dry : was_dry 0 past ≡ false
   pub read : blocks_read 0 past ≡ blocks
   pub unread : (b : ℕ) → is_unread 0 b past ≡ not (nat_lt b blocks)
   pub clean : (b : ℕ) → is_dirty D 0 b past ≡ false
@@ -115,8 +115,8 @@ abbrev pub halted : Stage
 halted = record { begun = true; joint = true; resumed = true; state = Stop; hold = None }
 
 -- it runs again
-abbrev pub home : Stage
-home = record { begun = true; joint = true; resumed = true; state = Running; hold = None }
+abbrev pub resumed_running : Stage
+resumed_running = record { begun = true; joint = true; resumed = true; state = Running; hold = None }
 
 -- what stands before the Joint, newest first
 abbrev pub older_than_joint : List Entry → List Entry

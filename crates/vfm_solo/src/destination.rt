@@ -8,7 +8,7 @@ ghost use Rattle.vfm_types.specs.declared.entry.Entry.{Entry as Item};
 ghost use Rattle.vfm_types.specs.declared.entry.Entry.TheVariants.{Resume};
 ghost use Rattle.vfm_types.specs.Desc.{shape_at, block_count};
 ghost use Rattle.vfm_solo.specs.Solo.{IsSolo};
-ghost use Rattle.vfm_solo.specs.Follows.{Follows, Copied, past_of, joined, home};
+ghost use Rattle.vfm_solo.specs.Follows.{Follows, Copied, past_of, joined, resumed_running};
 ghost use Rattle.vfm_solo.specs.Ready.{IsReady, HasRoom};
 
 use crate::engine::Engine;
@@ -28,7 +28,7 @@ impl Engine {
         ensures none { (device_of self.new.plain 0).pending ≡ [] }
         ensures follows { (before : List Item) → Follows desc.now (past_of before self.old) joined self.old
             → Copied desc.now (past_of before self.old) desc.now.pages (block_count (shape_at desc.now 0))
-            → Follows desc.now (past_of before self.new) home self.new }
+            → Follows desc.now (past_of before self.new) resumed_running self.new }
         ensures first { self.old.journal.entries ≡ [] → slice_get self.new.journal.entries 0 ≡ Some Resume }
     {
         // a device that isn't RUNNING has no step, so the first two rounds are the coordinator's alone

@@ -140,7 +140,7 @@ pub fn load(plain: &mut Plain, desc: &Desc, bytes: &[u8])
     ensures values { (m : Machine) → IsSound desc.now m → AllFit (device_of m 0).pending → bytes.now ≡ image m → plain.new ≡ m }
 {
     let rest = load_pages(plain, desc, bytes);
-    let (bar, rest) = rest.split_at(desc.devices.at(0).bar as usize);
+    let (bar, rest) = rest.split_at(desc.devices.at(0).bar_bytes() as usize);
     plain.set_bar(DeviceId(0), bar);
     load_device(plain, rest);
 }

@@ -45,7 +45,7 @@ fn source_entries(desc: &Desc) -> u64
     requires solo { IsSolo desc.now }
     ensures { result ≡ 6 + desc.now.pages + block_count (shape_at desc.now 0) }
 {
-    6 + u64::from(desc.pages) + u64::from(desc.devices.at(0).bar / 64)
+    6 + u64::from(desc.pages) + u64::from(desc.devices.at(0).bar_bytes() / 64)
 }
 
 /// How many bytes the state has at most.
@@ -55,7 +55,7 @@ fn most_bytes(desc: &Desc) -> usize
     ensures { result ≡ desc.now.pages * desc.now.page + bar_bytes (shape_at desc.now 0) + 80 + 8 * (shape_at desc.now 0).budget }
 {
     let shape = desc.devices.at(0);
-    desc.pages as usize * desc.page as usize + shape.bar as usize + 80 + 8 * shape.budget as usize
+    desc.pages as usize * desc.page as usize + shape.bar_bytes() as usize + 80 + 8 * shape.budget as usize
 }
 
 impl Engine {

@@ -163,7 +163,7 @@ impl Engine {
         ensures pass { (before : List Item) → InPass desc.now (past_of before self.old) desc.now.pages 0 self.old
             → InPass desc.now (past_of before self.new) desc.now.pages (block_count (shape_at desc.now 0)) self.new }
     {
-        let blocks = desc.devices.at(0).bar / 64;
+        let blocks = desc.devices.at(0).bar_bytes() / 64;
         for b in 0..blocks {
             self.note(Entry::Block { d: DeviceId(0), b });
             let from = 64 * b as usize;

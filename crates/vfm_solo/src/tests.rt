@@ -23,7 +23,7 @@ fn small(alloc: Global, begin: u32, queue: &[u32]) -> Result<Desc, Fail>
     let shape = DevShape {
         name: Name::of(b"a").ok_or("name")?,
         flags: Flags::of(1).ok_or("flags")?,
-        bar: 64,
+        bars: Bars::of(&[64]).ok_or("bars")?,
         window: 1,
         tells: true,
         budget: queue.len() as u32,
@@ -96,7 +96,7 @@ fn one_write_is_moved(rt: HostRuntime) -> Result<(), Fail> {
         Entry::Block { d: D, b: 0 },
     ];
     assert!(rt; source.as_slice() == did.as_slice());
-    let home = [
+    let resumed_running = [
         Entry::Resume,
         Entry::Arc {
             d: D,
@@ -107,7 +107,7 @@ fn one_write_is_moved(rt: HostRuntime) -> Result<(), Fail> {
             to: MigState::Running,
         },
     ];
-    assert!(rt; destination.as_slice() == home.as_slice());
+    assert!(rt; destination.as_slice() == resumed_running.as_slice());
     let written = [0, 0, 1, 2, 3, 4, 0, 0, 0, 0, 0, 0, 0, 0, 0, 0];
     assert!(rt; joint.page(1) == written.as_slice());
     assert!(rt; last.page(1) == written.as_slice());
@@ -149,7 +149,7 @@ fn pending_writes_are_moved(rt: HostRuntime) -> Result<(), Fail> {
         Entry::Block { d: D, b: 0 },
     ];
     assert!(rt; source.as_slice() == did.as_slice());
-    let home = [
+    let resumed_running = [
         Entry::Resume,
         Entry::Arc {
             d: D,
@@ -166,7 +166,7 @@ fn pending_writes_are_moved(rt: HostRuntime) -> Result<(), Fail> {
         Entry::Deliver { d: D, n: 2 },
         Entry::Complete { d: D, n: 2 },
     ];
-    assert!(rt; destination.as_slice() == home.as_slice());
+    assert!(rt; destination.as_slice() == resumed_running.as_slice());
     assert!(rt; joint.counts(D) == (3, 1, 0));
     assert!(rt; joint.pending(D) == [(1, 0), (2, 0)].as_slice());
     assert!(rt; last.counts(D) == (3, 3, 0));

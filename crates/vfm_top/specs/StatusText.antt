@@ -7,7 +7,7 @@ use Rattle.vfm_types.specs.declared.state.MigState.{MigState}
 use Rattle.vfm_types.specs.declared.state.PathFault.{PathFault}
 use Rattle.vfm_types.specs.declared.state.PathFault.TheVariants.{Unsupported, Forbidden, FromError}
 use Rattle.vfm_plain.specs.Text.{line, state_name}
-use Rattle.vfm_desc.specs.Ranges.{member_name}
+use Rattle.vfm_desc.specs.Members.{member_name}
 use Rattle.vfm_top.specs.declared.status.Status.{Status}
 use Rattle.vfm_top.specs.declared.status.Status.TheVariants.{Moved, BadWords, BadDescription, ReadFault, NoMemory}
 

@@ -8,7 +8,7 @@ use Rattle.vfm_types.specs.Deliveries.{delivers}
 use Rattle.vfm_laws.proofs.Enabled.{plain_exists}
 use Rattle.vfm_laws.proofs.Cleanness.{legal_clean}
 use Rattle.vfm_solo.specs.declared.engine.Engine.{Engine}
-use Rattle.vfm_solo.specs.Follows.{Follows, Unpassed, Copied, InPass, past_of, older_than_joint, waiting_stage, joined, home}
+use Rattle.vfm_solo.specs.Follows.{Follows, Unpassed, Copied, InPass, past_of, older_than_joint, waiting_stage, joined, resumed_running}
 use Rattle.vfm_solo.proofs.Copies.{same_follows, home_ended, pass_over, start_follows, start_unpassed}
 use Rattle.vfm_solo.proofs.moving.move_one.Goals as goal
 use Rattle.vfm_solo.proofs.moving.move_one.Goals.{After-drop-outbox}
@@ -30,7 +30,7 @@ same_machine : (c : After-drop-outbox) → c.load.new.plain ≡ c.hand_over.new.
 same_machine c = c.load.ensures.values c.hand_over.new.self.plain c.hand_over.ensures.ready.sound c.hand_over.ensures.fit (c.as_slice.ensures.value ∙ c.hand_over.ensures.image)
 
 -- the destination at its end
-destination_end : (c : After-drop-outbox) → Follows c.args.desc.now (reverse (c.hand_over.new.self.journal.entries ++ c.take_over.new.self.journal.entries)) home c.take_over.new.self
+destination_end : (c : After-drop-outbox) → Follows c.args.desc.now (reverse (c.hand_over.new.self.journal.entries ++ c.take_over.new.self.journal.entries)) resumed_running c.take_over.new.self
 destination_end c =
     let D = c.args.desc.now in
     let s : Engine = c.hand_over.new.self in
@@ -44,7 +44,7 @@ destination_end c =
     (same_follows D before joined s d0 pass.follows (same_machine c) (c.in_ok-destination.ensures.empty ∙ sym c.hand_over.ensures.still)) in
     let copied : Copied D (past_of before d0) D.pages (block_count (shape_at D 0)) =
     subst (λ (past : List Entry). Copied D past D.pages (block_count (shape_at D 0))) (sym none) pass.copied in
-    subst (λ (past : List Entry). Follows D past home d) (sym (reverse-append s.journal.entries d.journal.entries)) (c.take_over.ensures.follows before follows copied)
+    subst (λ (past : List Entry). Follows D past resumed_running d) (sym (reverse-append s.journal.entries d.journal.entries)) (c.take_over.ensures.follows before follows copied)
 
 pub returns-clause-legal : goal.returns-clause-legal
 returns-clause-legal c = (destination_end c).legal

@@ -3,7 +3,7 @@ use Rattle.vfm_types.specs.declared.state.MigState.{MigState}
 use Rattle.vfm_types.specs.declared.state.MigState.TheVariants.{Stop, Running}
 use Rattle.vfm_types.specs.declared.entry.Entry.{Entry}
 use Rattle.vfm_types.specs.declared.entry.Entry.TheVariants.{Resume, Arc}
-use Rattle.vfm_solo.specs.Follows.{past_of, taken_over, halted, home}
+use Rattle.vfm_solo.specs.Follows.{past_of, taken_over, halted, resumed_running}
 use Rattle.vfm_solo.proofs.Requests.{follows_more, first_more}
 use Rattle.vfm_solo.proofs.Copies.{resume_follows, halt_follows, home_follows}
 use Rattle.vfm_solo.proofs.engine.Engine.take_over.Goals as goal
@@ -21,9 +21,9 @@ returns-clause-follows c = λ before h k.
     (resume_follows D (past_of before e0) e0 e1 c.requires.solo h k c.note.ensures.plain c.note.ensures.flight) in
     let s2 = follows_more D before halted e1 e2 (Arc 0 Stop) (c.note-2.ensures.journal ∙ ap (λ (state : MigState). e1.journal.entries ++ Arc 0 state ∷ []) to)
     (halt_follows D (past_of before e1) e1 e2 c.requires.solo s1 c.note-2.ensures.plain c.note-2.ensures.flight) in
-    let s3 = follows_more D before home e2 e3 (Arc 0 Running) (c.note-3.ensures.journal ∙ ap (λ (state : MigState). e2.journal.entries ++ Arc 0 state ∷ []) next)
+    let s3 = follows_more D before resumed_running e2 e3 (Arc 0 Running) (c.note-3.ensures.journal ∙ ap (λ (state : MigState). e2.journal.entries ++ Arc 0 state ∷ []) next)
     (home_follows D (past_of before e2) e2 e3 c.requires.solo s2 c.note-3.ensures.plain c.note-3.ensures.flight) in
-    c.run.ensures.follows before home s3 (λ t. (refl, refl))
+    c.run.ensures.follows before resumed_running s3 (λ t. (refl, refl))
 
 pub returns-clause-first : goal.returns-clause-first
 returns-clause-first c = λ none.
