@@ -11,6 +11,7 @@ pub mod Complete
 pub mod KeptQueues
 pub mod QueueLaws
 pub mod Enabled
+pub mod JointStop
 pub mod EndedRuns
 pub mod Steps
 pub mod Flags

@@ -14,7 +14,7 @@ mod unclean;
 pub use bounds::{arcs_are_few, issues_add_up, passes_are_few};
 pub use clean::{delivery_is_clean, legal_is_clean};
 pub use ended::ended_is_done;
-pub use machine::{delivery_is_enabled, machine_exists};
+pub use machine::{delivery_is_enabled, joint_machine_exists, machine_exists};
 pub use prefixes::{
     before_is_legal, broken_is_first, one_more_is_broken, one_more_is_legal, unbroken_is_legal,
 };
@@ -23,7 +23,7 @@ pub use queue::{
     undelivered_are_enabled, undelivered_are_first, window_and_fences_hold,
 };
 pub use states::{
-    barred_is_running, joint_is_still, outstanding_is_awake, states_are_kept, stopped_beside_tame,
+    barred_is_running, joint_is_still, outstanding_is_awake, states_are_kept, stopped_beside_quiet,
 };
 pub use unclean::{
     barred_request_enters_p2p, issue_in_p2p, issue_when_stopped, machines_are_valid,

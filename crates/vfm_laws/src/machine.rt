@@ -5,7 +5,8 @@ ghost use Rattle.vfm_types.specs.declared.desc.Desc.{Desc};
 ghost use Rattle.vfm_types.specs.declared.entry.Entry.{Entry};
 ghost use Rattle.vfm_types.specs.declared.entry.Entry.TheVariants.{Deliver};
 ghost use Rattle.vfm_types.specs.Requests.{is_enabled, plain};
-ghost use Rattle.vfm_types.specs.Deliveries.{machine_of, delivers};
+ghost use Rattle.vfm_types.specs.Deliveries.{machine_of, delivers, joint_machine, before_joint};
+ghost use Rattle.vfm_types.specs.Phases.{is_joint};
 ghost use Rattle.vfm_types.specs.Valid.{IsValid};
 ghost use Rattle.vfm_plain.specs.Legal.{IsLegal};
 ghost use Rattle.vfm_plain.specs.Shape.{IsSound};
@@ -22,4 +23,10 @@ pub fn machine_exists()
     ensures exists { (D : Desc) → IsValid D → (past : List Entry) → IsLegal D past
         → plain D (delivers (reverse past)) ≡ Some (machine_of D past) }
     ensures sound { (D : Desc) → IsValid D → (past : List Entry) → IsLegal D past → IsSound D (machine_of D past) }
+{}
+
+/// Where a legal list has a Joint, what its journal delivers before that makes the machine at the joint stop.
+pub fn joint_machine_exists()
+    ensures { (D : Desc) → IsValid D → (past : List Entry) → IsLegal D past → IsTrue (is_joint past)
+        → plain D (delivers (before_joint (reverse past))) ≡ Some (joint_machine D past) }
 {}

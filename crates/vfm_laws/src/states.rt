@@ -28,7 +28,7 @@ pub fn outstanding_is_awake()
 {}
 
 /// Where one device is stopped, each is in a peer-to-peer state or stopped.
-pub fn stopped_beside_tame()
+pub fn stopped_beside_quiet()
     ensures { (D : Desc) (past : List Entry) → IsValid D → IsLegal D past → (d e : ℕ) → d < device_count D → e < device_count D
         → IsTrue (is_stopped (state_of d past)) → IsTrue (is_quiet_state (state_of e past)) }
 {}

@@ -2,7 +2,6 @@
 use Rattle.std.proofs.Common.{◌≡◌, ℕ, zero, suc, ◌+◌, ◌*◌, ◌/◌, ◌%◌, ◌<◌, ◌≤◌, ◌&&◌, ◌==◌, nat_le, IsTrue, List, [], ◌∷◌, ◌++◌, length, take, drop, slice_index_or, refl, sym, ap, ◌∙◌, arith, append-nil, append_assoc, length-append, drop-cons, take_at, drop_at}
 use Rattle.std.proofs.lemmas.Bool.{eqb-true}
 use Rattle.std.proofs.lemmas.List.Elements.{All-get_or, All-head, All-tail}
-use Rattle.vfm_types.specs.Valid.{is_bar_size}
 use Rattle.vfm_plain.proofs.Sound.{both}
 use Rattle.vfm_solo.specs.Image.{flat, number_bytes, pending_bytes, AllSized}
 
@@ -40,12 +39,6 @@ front_page size pages p rest h sized =
       ap (take size) parts ∙ take_at page (flat (drop (suc p) pages) ++ rest) size count,
       ap (drop size) parts ∙ drop_at page (flat (drop (suc p) pages) ++ rest) size count,
     )
-
--- one block more
-pub whole_blocks : (bar : ℕ) → IsTrue (is_bar_size bar) → 64 * (bar / 64) ≡ bar
-whole_blocks bar h =
-    let rest : bar % 64 ≡ 0 = eqb-true (bar % 64) 0 ((both (nat_le 64 bar && nat_le bar 65536) (bar % 64 == 0) h).1) in
-    omega arith
 
 -- one request more
 pub pending_more : (requests : List (ℕ × ℕ)) (i : ℕ) → i < length requests → pending_bytes (take (suc i) requests) ≡ (pending_bytes (take i requests) ++ number_bytes (slice_index_or requests i (0, 0)).0) ++ number_bytes (slice_index_or requests i (0, 0)).1

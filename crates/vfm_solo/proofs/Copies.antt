@@ -271,7 +271,6 @@ copy_in_pass D past e f p solo within i plain flight =
     record {
       follows = copy_follows D past e f p solo within i.follows i.copied plain flight;
       copied = copy_copied D past p i.copied;
-      legal = i.legal;
       still = i.still ∙ sym plain;
     }
 
@@ -280,7 +279,6 @@ block_in_pass D past e f b solo within i plain flight =
     record {
       follows = block_follows D past e f b solo within i.follows i.copied plain flight;
       copied = block_copied D past D.pages b i.copied;
-      legal = i.legal;
       still = i.still ∙ sym plain;
     }
 
@@ -293,7 +291,6 @@ pass_begins D past e f g solo h u plain flight later_plain later_flight =
     record {
       follows = pass_follows D (Joint ∷ past) f g solo joint unpassed later_plain later_flight;
       copied = pass_copied D (Joint ∷ past) f joint unpassed;
-      legal = h.legal;
       still = h.machine ∙ sym plain ∙ sym later_plain;
     }
 

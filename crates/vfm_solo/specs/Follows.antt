@@ -6,7 +6,7 @@ use Rattle.vfm_types.specs.declared.state.MigState.TheVariants.{Stop, Running, S
 use Rattle.vfm_types.specs.declared.entry.Entry.{Entry}
 use Rattle.vfm_types.specs.declared.entry.Entry.TheVariants.{Joint}
 use Rattle.vfm_types.specs.Phases.{is_begun, is_joint, is_aborted, is_failed, is_resumed, pass_count, is_last_begun}
-use Rattle.vfm_types.specs.Deliveries.{machine_of}
+use Rattle.vfm_types.specs.Deliveries.{machine_of, joint_machine}
 use Rattle.vfm_types.specs.Arcs.{state_of, hold_of, is_running}
 use Rattle.vfm_types.specs.Machine.{device_of}
 use Rattle.vfm_types.specs.Outstanding.{Outstanding, outstanding_of}
@@ -118,20 +118,8 @@ halted = record { begun = true; joint = true; resumed = true; state = Stop; hold
 abbrev pub resumed_running : Stage
 resumed_running = record { begun = true; joint = true; resumed = true; state = Running; hold = None }
 
--- what stands before the Joint, newest first
-abbrev pub older_than_joint : List Entry → List Entry
-older_than_joint [] = []
-older_than_joint (Joint ∷ past) = past
-older_than_joint (entry ∷ past) = older_than_joint past
-
--- what stands before the Joint of a journal, oldest first
-abbrev pub before_joint : List Entry → List Entry
-before_joint journal = reverse (older_than_joint (reverse journal))
-
--- In the last pass the first pages are copied and the first blocks read, and the machine is that of what stands before
--- the Joint.
+-- In the last pass the first pages are copied and the first blocks read, and the machine is that at the joint stop.
 pub record InPass (D : Desc) (past : List Entry) (pages blocks : ℕ) (e : Engine) : Type 0 where
   pub follows : Follows D past joined e
   pub copied : Copied D past pages blocks
-  pub legal : IsLegal D (older_than_joint past)
-  pub still : machine_of D (older_than_joint past) ≡ e.plain
+  pub still : joint_machine D past ≡ e.plain

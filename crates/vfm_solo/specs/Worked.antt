@@ -10,7 +10,7 @@ writer queue =
     record {
       name = 97 ∷ [];
       flags = 1;
-      bar = 64;
+      bars = 64 ∷ [];
       window = 1;
       tells = true;
       budget = length queue;

@@ -9,13 +9,13 @@ ghost use Rattle.vfm_solo.specs.declared.engine.Flight.TheVariants.{Empty};
 ghost use Rattle.vfm_types.specs.declared.entry.Entry.{Entry as Item};
 ghost use Rattle.vfm_types.specs.declared.entry.Entry.TheVariants.{Resume};
 ghost use Rattle.vfm_types.specs.Requests.{plain};
-ghost use Rattle.vfm_types.specs.Deliveries.{delivers};
+ghost use Rattle.vfm_types.specs.Deliveries.{delivers, before_joint};
 ghost use Rattle.vfm_types.specs.Phases.{is_aborted, is_failed};
 ghost use Rattle.vfm_plain.specs.Legal.{IsLegal};
 ghost use Rattle.vfm_plain.specs.Clean.{IsClean};
 ghost use Rattle.vfm_plain.specs.Ended.{has_ended, is_last_ended};
 ghost use Rattle.vfm_solo.specs.Solo.{IsSolo};
-ghost use Rattle.vfm_solo.specs.Follows.{Follows, Unpassed, InPass, past_of, before_joint, waiting_stage};
+ghost use Rattle.vfm_solo.specs.Follows.{Follows, Unpassed, InPass, past_of, waiting_stage};
 ghost use Rattle.vfm_solo.specs.Image.{flat, image, AllFit, device_bytes};
 ghost use Rattle.vfm_solo.specs.Ready.{IsReady, HasRoom, most_reach};
 

@@ -1,6 +1,6 @@
 use Rattle.std.proofs.Common.{◌≡◌, ℕ, ◌*◌, ◌<◌, List, ◌++◌, length, take, drop, sym, ap, ◌∙◌, arith, length-append, take_at, drop_at, mul_comm, slice_index_or}
 use Rattle.vfm_types.specs.declared.desc.DevShape.{DevShape}
-use Rattle.vfm_types.specs.Desc.{device_count}
+use Rattle.vfm_types.specs.Desc.{device_count, bar_bytes}
 use Rattle.vfm_types.specs.Machine.{DeviceState, Machine, no_device, device_of, with_device}
 use Rattle.vfm_plain.specs.Shape.{IsSound}
 use Rattle.vfm_laws.proofs.Effects.{device_changed, device_count_kept}
@@ -28,7 +28,7 @@ split_at-requires c =
     let dev : DeviceState = device_of m 0 in
     let rest : c.load_pages-rest.result.now ≡ dev.bar ++ device_bytes dev =
     (c.load_pages-rest.ensures.values m.pages (dev.bar ++ device_bytes dev) sound.shape.pages (pages_sized c.args.desc.now m sound.shape) same).1 in
-    let size : length dev.bar ≡ c.at.result.now.bar = (sound.shape.device 0 first).bar ∙ ap (λ (s : DevShape). s.bar) (sym (c.at.ensures.value _)) in
+    let size : length dev.bar ≡ c.bar_bytes.result = (sound.shape.device 0 first).bar ∙ ap (λ (s : DevShape). bar_bytes s) (sym (c.at.ensures.value _)) ∙ sym c.bar_bytes.ensures in
     omega (arith, size, ap length rest, length-append dev.bar (device_bytes dev))
 
 pub set_bar-requires-clause-device : goal.set_bar-requires-clause-device
@@ -38,7 +38,7 @@ set_bar-requires-clause-device c =
 pub set_bar-requires-clause-size : goal.set_bar-requires-clause-size
 set_bar-requires-clause-size c =
     let first : 0 < device_count c.args.desc.now = omega (arith, c.requires.solo.count) in
-    c.split_at.ensures.front_len ∙ ap (λ (s : DevShape). s.bar) (c.at.ensures.value _) ∙ sym ((c.requires.shape.device 0 first).bar)
+    c.split_at.ensures.front_len ∙ c.bar_bytes.ensures ∙ ap (λ (s : DevShape). bar_bytes s) (c.at.ensures.value _) ∙ sym ((c.requires.shape.device 0 first).bar)
     ∙ ap (λ (list : List DeviceState). length (slice_index_or list 0 no_device).bar) (sym c.load_pages-rest.ensures.devices)
 
 pub load_device-requires-clause-device : goal.load_device-requires-clause-device
@@ -71,10 +71,10 @@ load_device-requires-clause-whole c =
     let dev : DeviceState = device_of m 0 in
     let rest : c.load_pages-rest.result.now ≡ dev.bar ++ device_bytes dev =
     (c.load_pages-rest.ensures.values m.pages (dev.bar ++ device_bytes dev) sound.shape.pages (pages_sized c.args.desc.now m sound.shape) same).1 in
-    let size : length dev.bar ≡ c.at.result.now.bar = (sound.shape.device 0 first).bar ∙ ap (λ (s : DevShape). s.bar) (sym (c.at.ensures.value _)) in (
+    let size : length dev.bar ≡ c.bar_bytes.result = (sound.shape.device 0 first).bar ∙ ap (λ (s : DevShape). bar_bytes s) (sym (c.at.ensures.value _)) ∙ sym c.bar_bytes.ensures in (
       dev,
       handed_of c.args.desc.now m c.split_at.result.1.now c.requires.valid c.requires.solo sound c.requires.whole.2
-          (c.split_at.ensures.back ∙ ap (drop c.at.result.now.bar) rest ∙ drop_at dev.bar (device_bytes dev) c.at.result.now.bar size),
+          (c.split_at.ensures.back ∙ ap (drop c.bar_bytes.result) rest ∙ drop_at dev.bar (device_bytes dev) c.bar_bytes.result size),
     )
 
 pub returns : goal.returns
@@ -86,11 +86,11 @@ returns c = record { values = λ m sound fit same. values m sound fit same }
         let dev : DeviceState = device_of m 0 in
         let rest : c.load_pages-rest.result.now ≡ dev.bar ++ device_bytes dev =
         (c.load_pages-rest.ensures.values m.pages (dev.bar ++ device_bytes dev) sound.shape.pages (pages_sized c.args.desc.now m sound.shape) same).1 in
-        let size : length dev.bar ≡ c.at.result.now.bar = (sound.shape.device 0 first).bar ∙ ap (λ (s : DevShape). s.bar) (sym (c.at.ensures.value _)) in
+        let size : length dev.bar ≡ c.bar_bytes.result = (sound.shape.device 0 first).bar ∙ ap (λ (s : DevShape). bar_bytes s) (sym (c.at.ensures.value _)) ∙ sym c.bar_bytes.ensures in
         let pages = (c.load_pages-rest.ensures.values m.pages (dev.bar ++ device_bytes dev) sound.shape.pages (pages_sized c.args.desc.now m sound.shape) same).0 in
         let p = c.load_pages-rest.new.plain in
-        let front : c.split_at.result.0.now ≡ dev.bar = c.split_at.ensures.front ∙ ap (take c.at.result.now.bar) rest ∙ take_at dev.bar (device_bytes dev) c.at.result.now.bar size in
-        let back : c.split_at.result.1.now ≡ device_bytes dev = c.split_at.ensures.back ∙ ap (drop c.at.result.now.bar) rest ∙ drop_at dev.bar (device_bytes dev) c.at.result.now.bar size in
+        let front : c.split_at.result.0.now ≡ dev.bar = c.split_at.ensures.front ∙ ap (take c.bar_bytes.result) rest ∙ take_at dev.bar (device_bytes dev) c.bar_bytes.result size in
+        let back : c.split_at.result.1.now ≡ device_bytes dev = c.split_at.ensures.back ∙ ap (drop c.bar_bytes.result) rest ∙ drop_at dev.bar (device_bytes dev) c.bar_bytes.result size in
         machine_whole c.args.desc.now m c.args.plain.now p c.set_bar.new.self c.load_device.new.plain c.requires.solo sound.shape c.requires.shape c.load_pages-rest.ensures.devices pages
         (c.set_bar.ensures ∙ ap (λ (bytes : List ℕ). with_device p 0 (record (device_of p 0) { bar = bytes })) front)
         (c.load_device.ensures.values dev (handed_of c.args.desc.now m c.split_at.result.1.now c.requires.valid c.requires.solo sound fit back))

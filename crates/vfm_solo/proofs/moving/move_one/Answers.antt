@@ -4,11 +4,12 @@ use Rattle.vfm_types.specs.Desc.{shape_at, block_count}
 use Rattle.vfm_types.specs.Machine.{Machine}
 use Rattle.vfm_types.specs.declared.entry.Entry.{Entry}
 use Rattle.vfm_types.specs.Requests.{plain}
-use Rattle.vfm_types.specs.Deliveries.{delivers}
+use Rattle.vfm_types.specs.Deliveries.{delivers, before_joint}
 use Rattle.vfm_laws.proofs.Enabled.{plain_exists}
+use Rattle.vfm_laws.proofs.JointStop.{joint_exists}
 use Rattle.vfm_laws.proofs.Cleanness.{legal_clean}
 use Rattle.vfm_solo.specs.declared.engine.Engine.{Engine}
-use Rattle.vfm_solo.specs.Follows.{Follows, Unpassed, Copied, InPass, past_of, older_than_joint, waiting_stage, joined, resumed_running}
+use Rattle.vfm_solo.specs.Follows.{Follows, Unpassed, Copied, InPass, past_of, waiting_stage, joined, resumed_running}
 use Rattle.vfm_solo.proofs.Copies.{same_follows, home_ended, pass_over, start_follows, start_unpassed}
 use Rattle.vfm_solo.proofs.moving.move_one.Goals as goal
 use Rattle.vfm_solo.proofs.moving.move_one.Goals.{After-drop-outbox}
@@ -57,8 +58,9 @@ pub returns-clause-joint : goal.returns-clause-joint
 returns-clause-joint c =
     let D = c.args.desc.now in
     let pass = source_pass c in
-    let older : List Entry = older_than_joint (reverse c.hand_over.new.self.journal.entries) in
-    plain_exists D c.requires.valid older pass.legal ∙ ap (λ (m : Machine). Some m) pass.still
+    let past : List Entry = reverse c.hand_over.new.self.journal.entries in
+    ap (λ (entries : List Entry). plain D (delivers (before_joint entries))) (sym (reverse-reverse c.hand_over.new.self.journal.entries))
+    ∙ joint_exists D c.requires.valid past pass.follows.legal pass.follows.joint ∙ ap (λ (m : Machine). Some m) pass.still
 
 pub returns-clause-last : goal.returns-clause-last
 returns-clause-last c =

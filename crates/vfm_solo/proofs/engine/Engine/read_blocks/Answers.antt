@@ -1,4 +1,5 @@
-use Rattle.std.proofs.Common.{◌≡◌, ℕ, ◌+◌, ◌-◌, ◌*◌, ◌<◌, List, ◌++◌, length, take, drop, ap, ◌∙◌, sym, subst, arith, append_assoc, take-add, length-take, length-drop}
+use Rattle.std.proofs.Common.{◌≡◌, ℕ, ◌+◌, ◌-◌, ◌*◌, ◌%◌, ◌<◌, List, ◌++◌, length, take, drop, ap, ◌∙◌, sym, subst, arith, append_assoc, take-add, length-take, length-drop}
+use Rattle.std.proofs.lemmas.List.{take_all}
 use Rattle.vfm_types.specs.Machine.{Machine, device_of}
 use Rattle.vfm_types.specs.Desc.{device_count, shape_at, bar_bytes, block_count}
 use Rattle.vfm_types.specs.declared.desc.DevShape.{DevShape}
@@ -6,7 +7,7 @@ use Rattle.vfm_types.specs.declared.entry.Entry.TheVariants.{Block}
 use Rattle.vfm_solo.specs.Follows.{InPass, past_of}
 use Rattle.vfm_solo.proofs.Requests.{in_pass_more}
 use Rattle.vfm_solo.proofs.Copies.{block_in_pass}
-use Rattle.vfm_solo.proofs.Bytes.{whole_blocks}
+use Rattle.vfm_types.proofs.BarSizes.{all_bars}
 use Rattle.vfm_solo.proofs.engine.Engine.read_blocks.Goals as goal
 
 -- the bytes with one block more
@@ -25,9 +26,9 @@ pub loop-b-preserved : goal.loop-b-preserved
 loop-b-preserved c =
     let bar = (device_of c.args.self.now.plain 0).bar in
     let first : 0 < device_count c.args.desc.now = omega (arith, c.requires.solo.count) in
-    let whole = whole_blocks (bar_bytes (shape_at c.args.desc.now 0)) (c.requires.valid.in_range.devices 0 first).bar in
+    let whole : bar_bytes (shape_at c.args.desc.now 0) % 64 ≡ 0 = (all_bars (shape_at c.args.desc.now 0) (c.requires.valid.in_range.devices 0 first).bars).whole in
     let shape : c.at.result.now ≡ shape_at c.args.desc.now 0 = c.at.ensures.value _ in
-    let size : c.at.result.now.bar ≡ bar_bytes (shape_at c.args.desc.now 0) = ap (λ (s : DevShape). s.bar) shape in
+    let size : c.bar_bytes-blocks.result ≡ bar_bytes (shape_at c.args.desc.now 0) = c.bar_bytes-blocks.ensures ∙ ap (λ (s : DevShape). bar_bytes s) shape in
     let lent : c.bar-bar.result.now ≡ bar = c.bar-bar.ensures ∙ ap (λ (m : Machine). (device_of m 0).bar) (c.note.ensures.plain ∙ c.loop-b.invariant.plain) in
     let count : length bar ≡ bar_bytes (shape_at c.args.desc.now 0) = (c.requires.ready.sound.shape.device 0 first).bar in
     record {
@@ -47,6 +48,24 @@ loop-b-preserved c =
 pub returns-clause-pass : goal.returns-clause-pass
 returns-clause-pass c = λ before i.
     let shape : c.at.result.now ≡ shape_at c.args.desc.now 0 = c.at.ensures.value _ in
-    let size : c.at.result.now.bar ≡ bar_bytes (shape_at c.args.desc.now 0) = ap (λ (s : DevShape). s.bar) shape in
+    let size : c.bar_bytes-blocks.result ≡ bar_bytes (shape_at c.args.desc.now 0) = c.bar_bytes-blocks.ensures ∙ ap (λ (s : DevShape). bar_bytes s) shape in
     let end : c.loop-b.b ≡ block_count (shape_at c.args.desc.now 0) = omega (arith, size) in
     subst (λ (b : ℕ). InPass c.args.desc.now (past_of before c.loop-b.self) c.args.desc.now.pages b c.loop-b.self) end (c.loop-b.invariant.pass before i)
+
+pub returns-clause-items : goal.returns-clause-items
+returns-clause-items c =
+    let bar = (device_of c.args.self.now.plain 0).bar in
+    let first : 0 < device_count c.args.desc.now = omega (arith, c.requires.solo.count) in
+    let whole : bar_bytes (shape_at c.args.desc.now 0) % 64 ≡ 0 = (all_bars (shape_at c.args.desc.now 0) (c.requires.valid.in_range.devices 0 first).bars).whole in
+    let shape : c.at.result.now ≡ shape_at c.args.desc.now 0 = c.at.ensures.value _ in
+    let size : c.bar_bytes-blocks.result ≡ bar_bytes (shape_at c.args.desc.now 0) = c.bar_bytes-blocks.ensures ∙ ap (λ (s : DevShape). bar_bytes s) shape in
+    let count : length bar ≡ bar_bytes (shape_at c.args.desc.now 0) = (c.requires.ready.sound.shape.device 0 first).bar in
+    c.loop-b.invariant.items ∙ ap (λ (bytes : List ℕ). c.args.outbox.now.items ++ bytes) (take_all (64 * c.loop-b.b) bar (omega arith))
+
+pub returns-clause-used : goal.returns-clause-used
+returns-clause-used c =
+    let first : 0 < device_count c.args.desc.now = omega (arith, c.requires.solo.count) in
+    let whole : bar_bytes (shape_at c.args.desc.now 0) % 64 ≡ 0 = (all_bars (shape_at c.args.desc.now 0) (c.requires.valid.in_range.devices 0 first).bars).whole in
+    let shape : c.at.result.now ≡ shape_at c.args.desc.now 0 = c.at.ensures.value _ in
+    let size : c.bar_bytes-blocks.result ≡ bar_bytes (shape_at c.args.desc.now 0) = c.bar_bytes-blocks.ensures ∙ ap (λ (s : DevShape). bar_bytes s) shape in
+    omega arith
