@@ -3,9 +3,9 @@
 
 ghost use Rattle.std.specs.Prelude.{◌≡◌, ◌⊎◌, ℕ, [], None, map, is_some, string_bytes, slice_index_or, IsTrue, IsFalse};
 ghost use Rattle.vfm_top.specs.declared.status.Status.TheVariants.{Printed, WriteFault};
-ghost use Rattle.vfm_top.specs.Form.{form_of};
-ghost use Rattle.vfm_top.specs.Says.{Answers, Ends};
-ghost use Rattle.vfm_main.specs.Own.{is_own};
+ghost use Rattle.vfm_outside.specs.Tells.{sink_tells, WiresTell};
+ghost use Rattle.vfm_top.specs.Answers.{Ends, Promises};
+ghost use Rattle.vfm_main.specs.Own.{is_own, call_over_files};
 
 mod files;
 mod output;
@@ -80,8 +80,8 @@ fn own_text(words: &[String]) -> Option<&'static str>
 }
 
 /// Prints a text.
-fn tell<S: Sink>(text: &str, out: &mut S) -> Status
-    ensures { Ends result Printed text.now (S.holds out.old) (S.faults out.old) (S.holds out.new) (S.faults out.new) }
+fn print_text<S: Sink>(text: &str, out: &mut S) -> Status
+    ensures { Ends result Printed text.now (sink_tells (S.holds out.old) (S.faults out.old)) (sink_tells (S.holds out.new) (S.faults out.new)) }
 {
     match write_all(out, text.as_bytes()) {
         Ok(()) => Status::Printed,
@@ -90,17 +90,18 @@ fn tell<S: Sink>(text: &str, out: &mut S) -> Status
 }
 
 /// Does what the words ask for, with files and standard output. All but the program's own words go to the top call.
-/// Of that the contract keeps what the words decide; whether its file or its output failed isn't seen outside.
+/// Its files and its output show no bytes, and how many reads and writes failed is seen by nobody but the call.
 fn answer<H: Threads + Wait + Sync + Files + Print + Alloc<A = Global>>(
     rt: &H,
     words: &[String],
 ) -> Status
     ensures own { IsTrue (is_own (map string_bytes words.now)) → (result ≡ Printed) ⊎ (result ≡ WriteFault) }
-    ensures handed { IsFalse (is_own (map string_bytes words.now)) → (now after : ℕ) × Answers (form_of (map string_bytes words.now)) None 0 now result None 0 None after }
+    ensures handed { IsFalse (is_own (map string_bytes words.now)) → (wires : WiresTell) × (reads writes : ℕ)
+        × Promises (call_over_files (map string_bytes words.now) wires reads writes result) }
 {
     let mut out = OutSink::of(rt);
     if let Some(text) = own_text(words) {
-        return tell(text, &mut out);
+        return print_text(text, &mut out);
     }
     let mut desc = FileSource::of(rt, word_at(words, 1));
     let mut report = FileSource::of(rt, word_at(words, 2));

@@ -1,9 +1,9 @@
--- A text that was buffered and then flushed is printed.
+-- A text that was buffered and then flushed is printed, or a prefix of it is.
 use Rattle.std.proofs.Common.{◌≡◌, ℕ, List, [], ◌++◌, ap, sym, ◌∙◌, append_assoc, arith}
 use Rattle.std.specs.Prelude.{Result, Ok, Err}
 use Rattle.vfm_outside.specs.Told.{told_then, told_then-told_then}
 use Rattle.vfm_outside.specs.Tells.{SinkTells}
-use Rattle.vfm_text.specs.Buffered.{Buffered, Buffers}
+use Rattle.vfm_text.specs.Buffered.{Buffered, Buffers, Spills}
 use Rattle.vfm_text.specs.Prints.{Prints}
 
 pub printed : {T E : Type 0} {before after : Buffered} {now : SinkTells} {text : List ℕ} (r : Result T E) → before.bytes ≡ []
@@ -28,3 +28,13 @@ printed {T} {E} {before} {after} {now} {text} (Err x) none p q =
         taken = cut.taken ∙ (ap (λ t. told_then t cut.written) p.taken ∙ told_then-told_then before.sink.holds p.given cut.written);
       };
     }
+
+-- so is one of which the writer couldn't take all
+pub spilled : {T E : Type 0} {before : Buffered} {now : SinkTells} {text : List ℕ} (r : Result T E) (x : E) → r ≡ Err x → before.bytes ≡ []
+    → Spills before text now → Prints r text before.sink now
+spilled {T} {E} {before} {now} {text} r x is none s =
+    rw is (record {
+      count = record { never_falls = s.later; ok = tt; failed = s.rose };
+      ok = tt;
+      failed = record { written = s.given; lost = s.lost; whole = ap (λ t. t ++ text) (sym none) ∙ s.whole; taken = s.taken };
+    })

@@ -1,4 +1,5 @@
-pub mod Decided
+pub mod Causes
 pub mod Forms
+pub mod Outcomes
 pub mod Paths
-pub mod Unread
+pub mod Promises

@@ -1,5 +1,10 @@
 pub mod Number
 pub mod Form
+pub mod Table
 pub mod StatusText
 pub mod Headline
-pub mod Says
+pub mod Call
+pub mod Text
+pub mod Causes
+pub mod Answers
+pub mod Outcome

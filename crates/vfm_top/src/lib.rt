@@ -3,6 +3,7 @@
 
 mod call;
 mod line;
+mod outcome;
 mod print;
 mod status;
 mod words;

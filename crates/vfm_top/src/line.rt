@@ -1,26 +1,25 @@
-//! The lines that tell how a run ended.
+//! The line of each status, and those of a path.
 
 ghost use Rattle.std.specs.Prelude.{◌≡◌, ℕ, ◌≤◌, ◌+◌, List, [], ◌∷◌, ◌++◌, codes, map, length, decimal};
 ghost use Rattle.vfm_plain.specs.Text.{line};
 ghost use Rattle.vfm_text.specs.Writers.{Writes};
-ghost use Rattle.vfm_top.specs.StatusText.{device_word, job_word, field_word, fault_line, path_line, refused_line};
+ghost use Rattle.hex.specs.Hex.{encode_lower};
+ghost use Rattle.vfm_top.specs.StatusText.{device_word, job_word, field_word, fault_words, link_words, heard_word, doubt_words, section_word, status_line, path_line, refused_words};
+ghost use Rattle.vfm_top.specs.Text.{path_text};
 ghost use Rattle.vfm_top.specs.StatusText as spec;
 
+use crate::{Doubt, Section, Status};
 use itoa::Buffer;
 use vfm_desc::member_name;
 use vfm_outside::Failed;
 use vfm_states::Route;
 use vfm_text::{TextBuffer, TextWriter, put_all, put_line, state_name};
-use vfm_types::{DescFault, Field, PathFault};
+use vfm_types::{DescFault, Field, Heard44, LinkPlace, PathFault};
 
-/// Writes the line of a status that is one word.
-pub fn put_word<P: TextWriter>(writer: &mut P, word: &[u8]) -> Result<(), Failed>
-    ensures { Writes P.takes P.stops writer.old writer.new (line (codes "status") (word.now ∷ [])) result }
-{
-    put_line(writer, b"status", &[word])
-}
+/// How many bytes are turned into digits at a time: the longest that a status has.
+const MOST_DIGITS: usize = 88;
 
-/// Text of a number.
+/// Adds the digits of a number to a word.
 fn add_number(word: &mut TextBuffer, number: u32)
     requires { length word.old ≤ 1000 }
     ensures value { word.new ≡ word.old ++ decimal number }
@@ -28,6 +27,43 @@ fn add_number(word: &mut TextBuffer, number: u32)
 {
     let mut digits = Buffer::new();
     word.add(digits.format(number).as_bytes());
+}
+
+/// The digits of a number.
+fn number_text(number: u64) -> TextBuffer
+    ensures { result ≡ decimal number }
+{
+    let mut digits = Buffer::new();
+    let mut word = TextBuffer::new();
+    word.add(digits.format(number).as_bytes());
+    word
+}
+
+/// Bytes as digits.
+fn digits_text(bytes: &[u8]) -> TextBuffer
+    requires { length bytes.now ≤ 44 }
+    ensures { result ≡ encode_lower bytes.now }
+{
+    let mut digits = [0u8; MOST_DIGITS];
+    let text = &mut digits[..2 * bytes.len()];
+    if hex::encode_to_slice(bytes, text).is_err() {
+        unreachable!();
+    }
+    let mut word = TextBuffer::new();
+    word.add(text);
+    word
+}
+
+/// What came in place of a frame, as digits, or a dash where nothing came.
+fn heard_text(heard: &Heard44) -> TextBuffer
+    ensures { result ≡ heard_word heard.now }
+{
+    if heard.bytes().is_empty() {
+        let mut word = TextBuffer::new();
+        word.add(b"-");
+        return word;
+    }
+    digits_text(heard.bytes())
 }
 
 /// A device, as a fault names it.
@@ -113,8 +149,8 @@ fn place(fault: &DescFault) -> Option<TextBuffer>
 }
 
 /// Writes the line of a faulty description.
-pub fn put_fault<P: TextWriter>(writer: &mut P, fault: &DescFault) -> Result<(), Failed>
-    ensures { Writes P.takes P.stops writer.old writer.new (fault_line fault.now) result }
+fn put_fault<P: TextWriter>(writer: &mut P, fault: &DescFault) -> Result<(), Failed>
+    ensures { Writes P.takes P.stops writer.old writer.new (line (codes "status") (fault_words fault.now)) result }
 {
     match place(fault) {
         Some(place) => put_line(
@@ -126,8 +162,126 @@ pub fn put_fault<P: TextWriter>(writer: &mut P, fault: &DescFault) -> Result<(),
     }
 }
 
+/// Writes the line of a failed link.
+fn put_link_fault<P: TextWriter>(writer: &mut P, link: &LinkPlace) -> Result<(), Failed>
+    ensures { Writes P.takes P.stops writer.old writer.new (line (codes "status") (link_words link.now)) result }
+{
+    match link {
+        LinkPlace::Connect => put_line(writer, b"status", &[b"link-fault", b"connect"]),
+        LinkPlace::Source(k) => put_line(
+            writer,
+            b"status",
+            &[b"link-fault", b"source", number_text(u64::from(*k)).as_slice()],
+        ),
+        LinkPlace::Destination(k) => put_line(
+            writer,
+            b"status",
+            &[b"link-fault", b"destination", number_text(u64::from(*k)).as_slice()],
+        ),
+        LinkPlace::Control => put_line(writer, b"status", &[b"link-fault", b"control"]),
+    }
+}
+
+/// Writes the line of a run of which it isn't known who has the machine.
+fn put_doubt<P: TextWriter>(writer: &mut P, doubt: &Doubt) -> Result<(), Failed>
+    ensures { Writes P.takes P.stops writer.old writer.new (line (codes "status") (doubt_words doubt.now)) result }
+{
+    match doubt {
+        Doubt::Send => put_line(writer, b"status", &[b"in-doubt", b"send"]),
+        Doubt::Read => put_line(writer, b"status", &[b"in-doubt", b"read"]),
+        Doubt::NoGo(heard) => put_line(
+            writer,
+            b"status",
+            &[b"in-doubt", b"no-go", heard_text(heard).as_slice()],
+        ),
+        Doubt::Other { ours, theirs } => put_line(
+            writer,
+            b"status",
+            &[
+                b"in-doubt",
+                b"other",
+                digits_text(ours).as_slice(),
+                digits_text(theirs).as_slice(),
+            ],
+        ),
+    }
+}
+
+/// Which printed state isn't the audited one.
+fn section(section: Section) -> &'static [u8]
+    ensures { result.now ≡ section_word section }
+{
+    match section {
+        Section::Joint => b"joint",
+        Section::Last => b"final",
+    }
+}
+
+/// Writes the line of a status. Nothing is written for three: what `paths` prints has lines of its own, and after a failed
+/// write there is none.
+pub fn put_status<P: TextWriter>(writer: &mut P, status: &Status) -> Result<(), Failed>
+    ensures { Writes P.takes P.stops writer.old writer.new (status_line status.now) result }
+{
+    match status {
+        Status::Moved => put_line(writer, b"status", &[b"moved"]),
+        Status::Printed => Ok(()),
+        Status::BadWords => put_line(writer, b"status", &[b"bad-words"]),
+        Status::BadDescription(fault) => put_fault(writer, fault),
+        Status::ReadFault => put_line(writer, b"status", &[b"read-fault"]),
+        Status::WriteFault => Ok(()),
+        Status::LinkFault(link) => put_link_fault(writer, link),
+        Status::Refused(why) => put_line(
+            writer,
+            b"status",
+            &[
+                b"refused",
+                number_text(u64::from(why.code)).as_slice(),
+                number_text(why.a).as_slice(),
+                number_text(why.b).as_slice(),
+            ],
+        ),
+        Status::Unconfirmed { ours, theirs } => put_line(
+            writer,
+            b"status",
+            &[b"unconfirmed", digits_text(ours).as_slice(), digits_text(theirs).as_slice()],
+        ),
+        Status::InDoubt(doubt) => put_doubt(writer, doubt),
+        Status::Differs => put_line(writer, b"status", &[b"differs"]),
+        Status::Aborted { pass } => put_line(
+            writer,
+            b"status",
+            &[b"aborted", number_text(u64::from(*pass)).as_slice()],
+        ),
+        Status::ArcFailed { d, to } => put_line(
+            writer,
+            b"status",
+            &[b"arc-failed", number_text(u64::from(d.0)).as_slice(), state_name(*to)],
+        ),
+        Status::NoControl(heard) => {
+            put_line(writer, b"status", &[b"no-control", heard_text(heard).as_slice()])
+        }
+        Status::NoMemory => put_line(writer, b"status", &[b"no-memory"]),
+        Status::PathRefused(_) => Ok(()),
+        Status::Broken { place, rule } => put_line(
+            writer,
+            b"status",
+            &[
+                b"broken",
+                number_text(*place).as_slice(),
+                number_text(u64::from(rule.number())).as_slice(),
+            ],
+        ),
+        Status::BadReport { line } => {
+            put_line(writer, b"status", &[b"bad-report", number_text(*line).as_slice()])
+        }
+        Status::StateDiffers(which) => {
+            put_line(writer, b"status", &[b"state-differs", section(*which)])
+        }
+    }
+}
+
 /// Writes the line of a path.
-pub fn put_path<P: TextWriter>(writer: &mut P, route: &Route) -> Result<(), Failed>
+fn put_path<P: TextWriter>(writer: &mut P, route: &Route) -> Result<(), Failed>
     ensures { Writes P.takes P.stops writer.old writer.new (path_line route.now) result }
 {
     writer.put(b"path")?;
@@ -138,8 +292,8 @@ pub fn put_path<P: TextWriter>(writer: &mut P, route: &Route) -> Result<(), Fail
 }
 
 /// Writes the line of a path that is refused.
-pub fn put_refused<P: TextWriter>(writer: &mut P, fault: &PathFault) -> Result<(), Failed>
-    ensures { Writes P.takes P.stops writer.old writer.new (refused_line fault.now) result }
+fn put_refused<P: TextWriter>(writer: &mut P, fault: &PathFault) -> Result<(), Failed>
+    ensures { Writes P.takes P.stops writer.old writer.new (line (codes "refused") (refused_words fault.now)) result }
 {
     match fault {
         PathFault::Unsupported(state) => {
@@ -151,5 +305,18 @@ pub fn put_refused<P: TextWriter>(writer: &mut P, fault: &PathFault) -> Result<(
             &[b"forbidden", state_name(*from), state_name(*to)],
         ),
         PathFault::FromError => put_line(writer, b"refused", &[b"from-error"]),
+    }
+}
+
+/// Writes what `paths` prints: the path, or why there is none.
+pub fn put_answer<P: TextWriter>(
+    writer: &mut P,
+    answer: &Result<Route, PathFault>,
+) -> Result<(), Failed>
+    ensures { Writes P.takes P.stops writer.old writer.new (path_text answer.now) result }
+{
+    match answer {
+        Ok(route) => put_path(writer, route),
+        Err(fault) => put_refused(writer, fault),
     }
 }

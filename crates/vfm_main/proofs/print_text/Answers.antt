@@ -1,7 +1,7 @@
--- A failed write leaves a front of the text.
+-- A failed write leaves a prefix of the text.
 use Rattle.std.proofs.Common.{take, drop, refl, sym, inr}
 use Rattle.std.proofs.lemmas.List.{take-append-drop}
-use Rattle.vfm_main.proofs.tell.Goals as goal
+use Rattle.vfm_main.proofs.print_text.Goals as goal
 
 pub returns-in-Err : goal.returns-in-Err
 returns-in-Err g c =
@@ -9,6 +9,8 @@ returns-in-Err g c =
     let cut = rw c.as_bytes.ensures.value at c.in-Err.ensures.failed in
     inr (
       refl,
-      record { written = take cut.0 text; lost = drop cut.0 text; whole = sym (take-append-drop cut.0 text); taken = cut.2 },
-      c.in-Err.ensures.count.failed,
+      record {
+        cut = record { written = take cut.0 text; lost = drop cut.0 text; whole = sym (take-append-drop cut.0 text); taken = cut.2 };
+        rose = c.in-Err.ensures.count.failed;
+      },
     )

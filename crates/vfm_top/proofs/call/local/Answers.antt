@@ -1,0 +1,11 @@
+-- Words that need no machine are answered as `run` answers them.
+use Rattle.std.proofs.Common.{refl, sym, ◌∙◌, ap, Some}
+use Rattle.vfm_top.proofs.Promises.{without_form, with_path}
+use Rattle.vfm_top.proofs.call.local.Goals as goal
+
+pub returns-in_default-clause-promises : goal.returns-in_default-clause-promises
+returns-in_default-clause-promises g c = λ wires. without_form _ (sym c.read_words.ensures ∙ c.in_default.is) refl refl refl c.print_report.ensures
+
+pub returns-in-Paths-clause-promises : goal.returns-in-Paths-clause-promises
+returns-in-Paths-clause-promises g c = λ wires.
+    with_path _ c.in-Paths.from c.in-Paths.to c.in-Paths.flags (sym c.in-Some.ensures ∙ ap Some c.in-Paths.is) refl refl refl c.answer_path.ensures

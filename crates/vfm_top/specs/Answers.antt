@@ -1,0 +1,97 @@
+-- What a call of `run` does, in one record; and what its answers mean to a caller.
+use Rattle.std.specs.Prelude.{◌≡◌, ◌⊎◌, ℕ, List, Option, Some, None, IfSome, Err, IsFalse, IsOk}
+use Rattle.std.specs.Option.{IsSomeAnd}
+use Rattle.vfm_types.specs.declared.fault.DescFault.{DescFault}
+use Rattle.vfm_types.specs.Valid.{IsValid}
+use Rattle.vfm_outside.specs.Counts.{Rose}
+use Rattle.vfm_outside.specs.Told.{told_then}
+use Rattle.vfm_outside.specs.Tells.{SinkTells}
+use Rattle.vfm_plain.specs.Report.{Made}
+use Rattle.vfm_text.specs.Prints.{IsCut}
+use Rattle.vfm_desc.specs.Described.{description_of}
+use Rattle.vfm_top.specs.declared.words.Form.TheVariants.{Run}
+use Rattle.vfm_top.specs.declared.status.Status.{Status}
+use Rattle.vfm_top.specs.declared.status.Status.TheVariants.{Moved, BadWords, BadDescription, ReadFault, WriteFault, NoMemory}
+use Rattle.vfm_top.specs.Form.{form_of}
+use Rattle.vfm_top.specs.Table.{Owner, TookOver, reach_at, Reached}
+use Rattle.vfm_top.specs.Headline.{IsOneRun, HasItsStates, EndsWith, IsSafeRun}
+use Rattle.vfm_top.specs.Call.{Call, bytes_read, read_limit, HasReadFault, HasWriteFault, IsPrefixRead}
+use Rattle.vfm_top.specs.Text.{HasParts, text}
+use Rattle.vfm_top.specs.Causes.{is_run, IsExplained, IsAsked}
+
+-- what holds of a run that made a source
+pub record IsMoveOf (call : Call) (status : Status) (made : Made) : Type 0 where
+  pub valid : IsValid made.desc
+  pub asked : IsAsked call made.desc
+  pub parts : HasParts status made
+  pub safe : IsSafeRun status made
+
+-- this text was written wholly, and no write failed
+pub record IsPrinted (text : List ℕ) (before now : SinkTells) : Type 0 where
+  pub written : now.holds ≡ told_then before.holds text
+  pub faults : now.faults ≡ before.faults
+
+-- a write failed, and a prefix of this text was written
+pub record IsBrokenOff (text : List ℕ) (before now : SinkTells) : Type 0 where
+  pub cut : IsCut text before.holds now.holds
+  pub rose : Rose before.faults now.faults
+
+-- the status is answered and its text printed; or the output failed, and that is answered
+abbrev pub Ends : Status → Status → List ℕ → SinkTells → SinkTells → Type 0
+Ends answer status printed before now =
+    ((answer ≡ status) × IsPrinted printed before now) ⊎ ((answer ≡ WriteFault) × IsBrokenOff printed before now)
+
+-- What a call came to: a status with its cause, and where a source was made a move of the machine that was asked for. A
+-- failed read comes to `ReadFault`: at every other status none was counted.
+pub record IsOutcome (call : Call) (status : Status) (made : Option Made) : Type 0 where
+  pub reached : Reached (reach_at status) made
+  pub explained : IsExplained call status
+  pub move_of : IfSome made (λ made. IsMoveOf call status made)
+  pub no_read_failed : (status ≡ ReadFault → ⊥) → call.now.desc.faults ≡ call.before.desc.faults
+
+-- what a call does: it comes to an outcome, and prints the text of that
+pub record Answers (call : Call) : Type 0 where
+  pub status : Status
+  pub made : Option Made
+  pub outcome : IsOutcome call status made
+  pub ends : Ends call.answer status (text (form_of call.words) status made) call.before.out call.now.out
+
+-- What a call leaves alone: the report's source and the wires; and the description's source but for `run FILE`, which
+-- reads no more of it than the limit.
+pub record LeavesRest (call : Call) : Type 0 where
+  pub report : call.now.report ≡ call.before.report
+  pub wires : call.now.wires ≡ call.before.wires
+  pub unread : IsFalse (is_run (form_of call.words)) → call.now.desc ≡ call.before.desc
+  pub read : IsPrefixRead read_limit call.before.desc call.now.desc
+
+-- where a machine is after a call that printed a report of it: with this owner
+pub record LeavesMachine (owner : Owner) (call : Call) : Type 0 where
+  pub made : Made
+  pub asked : IsAsked call made.desc
+  pub run : IsOneRun made
+  pub states : HasItsStates made
+  pub kept : EndsWith owner made
+  pub printed : IsPrinted (text (form_of call.words) call.answer (Some made)) call.before.out call.now.out
+
+-- What the answers mean to a caller, each in one line.
+pub record Means (call : Call) : Type 0 where
+  -- Moved: the machine ran to its end at the destination, each request done once
+  pub moved : call.answer ≡ Moved → LeavesMachine TookOver call
+  -- words without a form are refused, where no write failed
+  pub bad_words : form_of call.words ≡ None → (HasWriteFault call → ⊥) → call.answer ≡ BadWords
+  -- a described machine is moved, or memory ran out, where no read or write failed
+  pub moves : form_of call.words ≡ Some Run → IsSomeAnd (bytes_read call) (λ read. IsOk (description_of read))
+      → (HasReadFault call → ⊥) → (HasWriteFault call → ⊥) → (call.answer ≡ Moved) ⊎ (call.answer ≡ NoMemory)
+  -- a faulty description is refused by its first fault, or memory ran out, where no read or write failed
+  pub refuses : (fault : DescFault) → form_of call.words ≡ Some Run
+      → IsSomeAnd (bytes_read call) (λ read. description_of read ≡ Err fault)
+      → (HasReadFault call → ⊥) → (HasWriteFault call → ⊥) → (call.answer ≡ BadDescription fault) ⊎ (call.answer ≡ NoMemory)
+  -- a failed read or write is answered only where one was counted
+  pub read_fault : call.answer ≡ ReadFault → HasReadFault call
+  pub write_fault : call.answer ≡ WriteFault → HasWriteFault call
+
+-- what `run` promises of a call
+pub record Promises (call : Call) : Type 0 where
+  pub answers : Answers call
+  pub leaves : LeavesRest call
+  pub means : Means call

@@ -1,0 +1,52 @@
+-- A call of `run`: its words, what the objects outside show before it and after it, and its answer.
+use Rattle.std.specs.Prelude.{◌≡◌, ℕ, ◌≤◌, List, length, take, drop, Option, option_map}
+use Rattle.vfm_outside.specs.Told.{then_told}
+use Rattle.vfm_outside.specs.Counts.{Rose}
+use Rattle.vfm_outside.specs.Tells.{SourceTells, SinkTells, WiresTell}
+use Rattle.vfm_top.specs.declared.status.Status.{Status}
+
+-- what the description's source, the report's source, the wires and the output show at one moment
+pub record Outside : Type 0 where
+  pub desc : SourceTells
+  pub report : SourceTells
+  pub wires : WiresTell
+  pub out : SinkTells
+
+abbrev pub outside : SourceTells → SourceTells → WiresTell → SinkTells → Outside
+outside desc report wires out = record { desc = desc; report = report; wires = wires; out = out }
+
+-- a call: its words without the program's name, what is shown outside before it and after it, and its answer
+pub record Call : Type 0 where
+  pub words : List (List ℕ)
+  pub before : Outside
+  pub now : Outside
+  pub answer : Status
+
+abbrev pub call_of : List (List ℕ) → Outside → Outside → Status → Call
+call_of words before now answer = record { words = words; before = before; now = now; answer = answer }
+
+-- how many bytes of a description are read at the most: one more than it may have
+abbrev pub read_limit : ℕ
+read_limit = 16777217
+
+-- the bytes that are to be read of the description, where its source shows them: the first so many, or all
+abbrev pub bytes_read : Call → Option (List ℕ)
+bytes_read call = option_map (take read_limit) call.before.desc.left
+
+-- a failed read was counted
+abbrev pub HasReadFault : Call → Type 0
+HasReadFault call = Rose call.before.desc.faults call.now.desc.faults
+
+-- a failed write was counted
+abbrev pub HasWriteFault : Call → Type 0
+HasWriteFault call = Rose call.before.out.faults call.now.out.faults
+
+-- the description was read to its end, or up to the limit: what stands after that is left
+abbrev pub IsReadOut : Call → Type 0
+IsReadOut call = call.now.desc.left ≡ option_map (drop read_limit) call.before.desc.left
+
+-- the first bytes of a source were read, at most so many
+pub record IsPrefixRead (most : ℕ) (before now : SourceTells) : Type 0 where
+  pub bytes : List ℕ
+  pub few : length bytes ≤ most
+  pub read : before.left ≡ then_told bytes now.left
