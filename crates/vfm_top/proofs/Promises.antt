@@ -94,10 +94,10 @@ means call a =
       bad_words = λ none quiet. rw (answered call a quiet) (brought_bad_words call a.status (a.outcome.explained.exact BadWords none));
       moves = λ form bytes unread quiet. rw (answered call a quiet)
           (brought_move call a.status a.outcome.explained.cause unread
-            (a.outcome.explained.exact Moved (record { asked = asks (form_of call.words) form; answer = bytes })));
+          (a.outcome.explained.exact Moved (record { asked = asks (form_of call.words) form; answer = bytes })));
       refuses = λ fault form bytes unread quiet. rw (answered call a quiet)
           (brought_fault call fault a.status a.outcome.explained.cause unread
-            (a.outcome.explained.exact (BadDescription fault) (record { asked = asks (form_of call.words) form; answer = bytes })));
+          (a.outcome.explained.exact (BadDescription fault) (record { asked = asks (form_of call.words) form; answer = bytes })));
       read_fault = λ is.
           let p = was_printed call ReadFault a.status _ is (λ same. cc) a.ends in
           failed call a.status a.outcome.explained.cause (sym p.0 ∙ is);

@@ -74,9 +74,9 @@ pub fn run<H: Threads + Wait + Sync, D: Source, R: Source, S: Sink, W: Wires, B:
 ) -> Status
     ensures { Promises (call_of (map string_bytes words.now)
         (outside (source_tells (D.left desc.old) (D.faults desc.old)) (source_tells (R.left report.old) (R.faults report.old))
-            (wires_tell (W.asked wires.old) (W.carried wires.old) (W.faults wires.old)) (sink_tells (S.holds out.old) (S.faults out.old)))
+        (wires_tell (W.asked wires.old) (W.carried wires.old) (W.faults wires.old)) (sink_tells (S.holds out.old) (S.faults out.old)))
         (outside (source_tells (D.left desc.new) (D.faults desc.new)) (source_tells (R.left report.new) (R.faults report.new))
-            (wires_tell (W.asked wires.new) (W.carried wires.new) (W.faults wires.new)) (sink_tells (S.holds out.new) (S.faults out.new)))
+        (wires_tell (W.asked wires.new) (W.carried wires.new) (W.faults wires.new)) (sink_tells (S.holds out.new) (S.faults out.new)))
         result) }
 {
     match local(alloc, words, desc, report, out) {

@@ -171,12 +171,20 @@ fn put_link_fault<P: TextWriter>(writer: &mut P, link: &LinkPlace) -> Result<(),
         LinkPlace::Source(k) => put_line(
             writer,
             b"status",
-            &[b"link-fault", b"source", number_text(u64::from(*k)).as_slice()],
+            &[
+                b"link-fault",
+                b"source",
+                number_text(u64::from(*k)).as_slice(),
+            ],
         ),
         LinkPlace::Destination(k) => put_line(
             writer,
             b"status",
-            &[b"link-fault", b"destination", number_text(u64::from(*k)).as_slice()],
+            &[
+                b"link-fault",
+                b"destination",
+                number_text(u64::from(*k)).as_slice(),
+            ],
         ),
         LinkPlace::Control => put_line(writer, b"status", &[b"link-fault", b"control"]),
     }
@@ -243,7 +251,11 @@ pub fn put_status<P: TextWriter>(writer: &mut P, status: &Status) -> Result<(), 
         Status::Unconfirmed { ours, theirs } => put_line(
             writer,
             b"status",
-            &[b"unconfirmed", digits_text(ours).as_slice(), digits_text(theirs).as_slice()],
+            &[
+                b"unconfirmed",
+                digits_text(ours).as_slice(),
+                digits_text(theirs).as_slice(),
+            ],
         ),
         Status::InDoubt(doubt) => put_doubt(writer, doubt),
         Status::Differs => put_line(writer, b"status", &[b"differs"]),
@@ -255,10 +267,18 @@ pub fn put_status<P: TextWriter>(writer: &mut P, status: &Status) -> Result<(), 
         Status::ArcFailed { d, to } => put_line(
             writer,
             b"status",
-            &[b"arc-failed", number_text(u64::from(d.0)).as_slice(), state_name(*to)],
+            &[
+                b"arc-failed",
+                number_text(u64::from(d.0)).as_slice(),
+                state_name(*to),
+            ],
         ),
         Status::NoControl(heard) => {
-            put_line(writer, b"status", &[b"no-control", heard_text(heard).as_slice()])
+            put_line(
+                writer,
+                b"status",
+                &[b"no-control", heard_text(heard).as_slice()],
+            )
         }
         Status::NoMemory => put_line(writer, b"status", &[b"no-memory"]),
         Status::PathRefused(_) => Ok(()),
@@ -272,7 +292,11 @@ pub fn put_status<P: TextWriter>(writer: &mut P, status: &Status) -> Result<(), 
             ],
         ),
         Status::BadReport { line } => {
-            put_line(writer, b"status", &[b"bad-report", number_text(*line).as_slice()])
+            put_line(
+                writer,
+                b"status",
+                &[b"bad-report", number_text(*line).as_slice()],
+            )
         }
         Status::StateDiffers(which) => {
             put_line(writer, b"status", &[b"state-differs", section(*which)])

@@ -10,8 +10,8 @@ ghost use Rattle.vfm_top.specs.Answers.{Ends};
 ghost use Rattle.vfm_top.specs.Outcome.{made_in, HasSizes};
 
 use crate::Status;
-use crate::outcome::Outcome;
 use crate::line::{put_answer, put_status};
+use crate::outcome::Outcome;
 use vfm_outside::{Failed, Sink};
 use vfm_states::Route;
 use vfm_text::{ReportParts, SinkWriter, TextBuffer, TextWriter, put_parts};
@@ -64,11 +64,7 @@ fn write_answer<S: Sink>(answer: &Result<Route, PathFault>, out: &mut S) -> Resu
 }
 
 /// Prints the report of a status and ends with it, or with `WriteFault` where the sink failed.
-pub fn print_report<S: Sink>(
-    status: Status,
-    parts: Option<&ReportParts<'_>>,
-    out: &mut S,
-) -> Status
+pub fn print_report<S: Sink>(status: Status, parts: Option<&ReportParts<'_>>, out: &mut S) -> Status
     requires { IfSome parts (λ parts. CanPrint parts.now) }
     ensures { Ends result status (report status (option_map (λ parts. made_of parts.now) parts.entry))
         (sink_tells (S.holds out.old) (S.faults out.old)) (sink_tells (S.holds out.new) (S.faults out.new)) }

@@ -1,11 +1,14 @@
 //! Whole runs from words to text: what they print, and how sources and sinks that fail end them.
 
-use crate::{Status, number, run};
+use crate::line::put_status;
+use crate::{Doubt, Section, Status, number, run};
 use std::alloc::Global;
 use std::sync::Wait;
 use std::test::Fail;
 use std::thread::Threads;
 use vfm_outside::{MemSink, MemSource, NoBeat, ScriptWires};
+use vfm_text::{SinkWriter, TextBuffer};
+use vfm_types::{DeviceId, Heard44, LinkPlace, MigState, Refusal, Rule};
 
 const ONE: &str =
     r#"{"session":7,"page":16,"pages":2,"channels":1,"version":1,"begin":99,"rounds":0,"threshold":0,"devices":[{"name":"a","flags":1,"bar":64,"window":1,"tells":true,"budget":1,"fails":0,"jobs":[{"kind":"write","at":18,"hex":"01020304"}],"queue":[0]}]}"#;
@@ -42,7 +45,7 @@ const DESTINATION: [&str; 4] = [
     "arc 0 RUNNING",
 ];
 
-// Puts lines behind a text.
+// Puts lines after a text.
 fn add_lines(text: &mut Vec<u8>, lines: &[&str]) -> Result<(), Fail> {
     for line in lines {
         text.extend_from_slice(line.as_bytes())?;
@@ -225,7 +228,7 @@ fn paths_are_printed(rt: HostRuntime) -> Result<(), Fail> {
 }
 
 #[test]
-fn refused_paths_tell_why(rt: HostRuntime) -> Result<(), Fail> {
+fn refused_paths_say_why(rt: HostRuntime) -> Result<(), Fail> {
     let alloc = rt.alloc();
     assert!(rt;
         is_path(
@@ -285,7 +288,7 @@ fn faulty_descriptions_are_refused(rt: HostRuntime) -> Result<(), Fail> {
 }
 
 #[test]
-fn a_failed_read_is_told(rt: HostRuntime) -> Result<(), Fail> {
+fn a_failed_read_is_answered(rt: HostRuntime) -> Result<(), Fail> {
     let alloc = rt.alloc();
     let mut out = ample(alloc)?;
     let status = run_words(&rt, alloc, &["run", "one.json"], ONE, &[0], &mut out)?;
@@ -295,7 +298,7 @@ fn a_failed_read_is_told(rt: HostRuntime) -> Result<(), Fail> {
 }
 
 #[test]
-fn a_failed_write_leaves_a_front(rt: HostRuntime) -> Result<(), Fail> {
+fn a_failed_write_leaves_a_prefix(rt: HostRuntime) -> Result<(), Fail> {
     let alloc = rt.alloc();
     let mut out = MemSink::of(alloc, 4096, [2u32].to_vec(alloc)?, 16)?;
     let status = run_words(&rt, alloc, &["run", "one.json"], ONE, &[], &mut out)?;
@@ -304,5 +307,98 @@ fn a_failed_write_leaves_a_front(rt: HostRuntime) -> Result<(), Fail> {
         out.bytes(),
         b"status moved\njournal source\nissu".as_slice()
     );
+    Ok(())
+}
+
+// Whether this status has this line.
+fn has_line(alloc: Global, status: &Status, line: &str) -> Result<bool, Fail> {
+    let mut out = ample(alloc)?;
+    let mut writer = SinkWriter {
+        buffer: TextBuffer::new(),
+        sink: &mut out,
+    };
+    put_status(&mut writer, status).or(Err("the status"))?;
+    writer.flush().or(Err("the sink"))?;
+    Ok(out.bytes() == line.as_bytes())
+}
+
+#[test]
+fn statuses_of_links_and_refusals_have_their_lines(rt: HostRuntime) -> Result<(), Fail> {
+    let alloc = rt.alloc();
+    let connect = Status::LinkFault(LinkPlace::Connect);
+    assert!(rt; has_line(alloc, &connect, "status link-fault connect\n")?);
+    let source = Status::LinkFault(LinkPlace::Source(3));
+    assert!(rt; has_line(alloc, &source, "status link-fault source 3\n")?);
+    let destination = Status::LinkFault(LinkPlace::Destination(7));
+    assert!(rt; has_line(alloc, &destination, "status link-fault destination 7\n")?);
+    let control = Status::LinkFault(LinkPlace::Control);
+    assert!(rt; has_line(alloc, &control, "status link-fault control\n")?);
+    let refused = Status::Refused(Refusal {
+        code: 24,
+        a: 0,
+        b: 4096,
+    });
+    assert!(rt; has_line(alloc, &refused, "status refused 24 0 4096\n")?);
+    Ok(())
+}
+
+#[test]
+fn statuses_of_the_handshake_have_their_lines(rt: HostRuntime) -> Result<(), Fail> {
+    let alloc = rt.alloc();
+    let unconfirmed = Status::Unconfirmed {
+        ours: [171; 32],
+        theirs: [1; 32],
+    };
+    assert!(rt;
+        has_line(
+            alloc,
+            &unconfirmed,
+            "status unconfirmed abababababababababababababababababababababababababababababababab 0101010101010101010101010101010101010101010101010101010101010101\n"
+        )?
+    );
+    let send = Status::InDoubt(Doubt::Send);
+    assert!(rt; has_line(alloc, &send, "status in-doubt send\n")?);
+    let read = Status::InDoubt(Doubt::Read);
+    assert!(rt; has_line(alloc, &read, "status in-doubt read\n")?);
+    let silent = Status::InDoubt(Doubt::NoGo(Heard44::of(&[]).ok_or("heard")?));
+    assert!(rt; has_line(alloc, &silent, "status in-doubt no-go -\n")?);
+    let other = Status::InDoubt(Doubt::Other {
+        ours: [0; 32],
+        theirs: [255; 32],
+    });
+    assert!(rt;
+        has_line(
+            alloc,
+            &other,
+            "status in-doubt other 0000000000000000000000000000000000000000000000000000000000000000 ffffffffffffffffffffffffffffffffffffffffffffffffffffffffffffffff\n"
+        )?
+    );
+    let heard = Status::NoControl(Heard44::of(&[86, 70, 17]).ok_or("heard")?);
+    assert!(rt; has_line(alloc, &heard, "status no-control 564611\n")?);
+    Ok(())
+}
+
+#[test]
+fn statuses_of_runs_and_audits_have_their_lines(rt: HostRuntime) -> Result<(), Fail> {
+    let alloc = rt.alloc();
+    assert!(rt; has_line(alloc, &Status::Differs, "status differs\n")?);
+    let aborted = Status::Aborted { pass: 2 };
+    assert!(rt; has_line(alloc, &aborted, "status aborted 2\n")?);
+    let failed = Status::ArcFailed {
+        d: DeviceId(1),
+        to: MigState::StopCopy,
+    };
+    assert!(rt; has_line(alloc, &failed, "status arc-failed 1 STOP_COPY\n")?);
+    let broken = Status::Broken {
+        place: 12,
+        rule: Rule::Quiet,
+    };
+    assert!(rt; has_line(alloc, &broken, "status broken 12 4\n")?);
+    let line = Status::BadReport { line: 9 };
+    assert!(rt; has_line(alloc, &line, "status bad-report 9\n")?);
+    let joint = Status::StateDiffers(Section::Joint);
+    assert!(rt; has_line(alloc, &joint, "status state-differs joint\n")?);
+    let last = Status::StateDiffers(Section::Last);
+    assert!(rt; has_line(alloc, &last, "status state-differs final\n")?);
     Ok(())
 }
