@@ -8,9 +8,13 @@
 #![tactic(auto)]
 
 mod codec;
+mod ends;
 mod frame;
 mod frame_laws;
+mod pair;
 
 pub use codec::{decode, encode};
+pub use ends::{Answer, DestEnd, NotNow, PairEvent, SourceEnd};
 pub use frame::{FRAME_LEN, Frame};
 pub use frame_laws::{encoded_frame_is_decoded, only_frames_are_decoded};
+pub use pair::Pair;
