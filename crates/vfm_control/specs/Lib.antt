@@ -1,3 +1,4 @@
 pub mod Words
 pub mod Frame
 pub mod Pair
+pub mod Calls
