@@ -1,7 +1,6 @@
 -- The calls of the real ends as steps of the pair.
-use Rattle.std.proofs.Common.{◌≡◌, ◌≢◌, ℕ, Bool, true, false, cond, List, Option, Some, None, refl, sym, ap, ◌∙◌}
+use Rattle.std.proofs.Common.{◌≡◌, ◌≢◌, ℕ, Bool, true, cond, List, Option, Some, None, refl, sym, ap, ◌∙◌}
 use Rattle.std.specs.Prelude.{is_some}
-use Rattle.std.specs.Str.{bytes_eq}
 use Rattle.vfm_types.specs.declared.fault.Refusal.{Refusal}
 use Rattle.vfm_control.specs.declared.frame.Frame.{Frame}
 use Rattle.vfm_control.specs.declared.frame.Frame.TheVariants as frames
@@ -11,10 +10,9 @@ use Rattle.vfm_control.specs.declared.ends.DestEnd.{DestEnd}
 use Rattle.vfm_control.specs.declared.ends.DestEnd.TheVariants as dest
 use Rattle.vfm_control.specs.declared.ends.Answer.{Answer}
 use Rattle.vfm_control.specs.declared.ends.Answer.TheVariants as answers
-use Rattle.vfm_control.specs.declared.ends.PairEvent.{PairEvent}
 use Rattle.vfm_control.specs.declared.ends.PairEvent.TheVariants.{Stage, Refuse, DeliverAnswer, DeliverGo, SendGo, GiveUp}
 use Rattle.vfm_control.specs.Frame.{frame_at}
-use Rattle.vfm_control.specs.Pair.{PairState, is_staging, has_heard, may_give_up, can_happen, happens, sends_go, source_hears, dest_hears, pair_step}
+use Rattle.vfm_control.specs.Pair.{PairState, is_staging, has_heard, may_give_up, can_happen, happens, sends_go, source_hears, dest_hears}
 use Rattle.vfm_control.specs.Calls.{answer_frame, IsAnswerOf, IsGoOf, LeadsTo}
 use Rattle.vfm_control.proofs.Encoded.{one_frame, found}
 use Rattle.vfm_control.proofs.Digests.{same_as_itself, not_as_another}

@@ -1,7 +1,6 @@
 -- What stays from event to event, and what has happened where a list of events leads.
 use Rattle.std.proofs.Common.{◌≡◌, ◌≢◌, ℕ, Bool, true, false, cond, List, [], ◌∷◌, ◌++◌, Option, Some, None, refl, sym, ap, ◌∙◌, subst, inl, inr, ◌⊎◌}
-use Rattle.std.specs.Prelude.{IsTrue, IsFalse, is_some}
-use Rattle.std.specs.Str.{bytes_eq}
+use Rattle.std.specs.Prelude.{is_some}
 use Rattle.vfm_control.specs.declared.ends.SourceEnd.{SourceEnd}
 use Rattle.vfm_control.specs.declared.ends.SourceEnd.TheVariants as source
 use Rattle.vfm_control.specs.declared.ends.DestEnd.{DestEnd}
@@ -10,8 +9,14 @@ use Rattle.vfm_control.specs.declared.ends.Answer.{Answer}
 use Rattle.vfm_control.specs.declared.ends.Answer.TheVariants as answers
 use Rattle.vfm_control.specs.declared.ends.PairEvent.{PairEvent}
 use Rattle.vfm_control.specs.declared.ends.PairEvent.TheVariants.{Stage, Refuse, DeliverAnswer, DeliverGo, SendGo, GiveUp, StopSource, StopDest}
-use Rattle.vfm_control.specs.Pair.{PairState, is_staging, has_heard, may_give_up, can_happen, happens, sends_go, source_hears, dest_hears, pair_step, pair_after, HasHappened}
+use Rattle.vfm_control.specs.Pair.{PairState, is_staging, has_heard, may_give_up, can_happen, happens, sends_go, source_hears, pair_step, pair_after, HasHappened}
 use Rattle.vfm_control.proofs.Keeping.{Confirmed, GoKept, SourceKept, DestKept, Kept, kept}
+
+-- one more event, of a pair that stands after a list
+pub one_more : (own : List ℕ) (past : List PairEvent) (e : PairEvent) (before after : PairState) → after ≡ pair_step before e
+    → before ≡ pair_after own past → after ≡ pair_after own (e ∷ past)
+unfolding pair_after
+one_more own past e before after step is = step ∙ ap (λ (p : PairState). pair_step p e) is
 
 -- ---- one part of a pair after an event that doesn't touch it
 

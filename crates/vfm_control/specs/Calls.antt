@@ -1,5 +1,5 @@
 -- The calls of the real ends as steps of the pair: what each is, where what it read was sent by the other end.
-use Rattle.std.specs.Prelude.{◌≡◌, ℕ, IsTrue, Option, Some, List}
+use Rattle.std.specs.Prelude.{◌≡◌, ℕ, IsTrue, Some, List}
 use Rattle.vfm_control.specs.declared.frame.Frame.{Frame}
 use Rattle.vfm_control.specs.declared.frame.Frame.TheVariants as frames
 use Rattle.vfm_control.specs.declared.ends.Answer.{Answer}

@@ -1,7 +1,8 @@
 //! The machine of both ends.
 
-ghost use Rattle.std.specs.Prelude.{◌≡◌, ◌↔◌, Some, IsErr, IsFalse, OnErr, OnOk};
-ghost use Rattle.vfm_control.specs.Pair.{pair_start, is_staging, can_happen, pair_step, source_hears, dest_hears};
+ghost use Rattle.std.specs.Prelude.{◌≡◌, ◌↔◌, ℕ, List, [], ◌∷◌, Some, IsErr, IsFalse, OnErr, OnOk};
+ghost use Rattle.vfm_control.specs.declared.ends.PairEvent.{PairEvent};
+ghost use Rattle.vfm_control.specs.Pair.{pair_start, is_staging, can_happen, pair_step, pair_after, source_hears, dest_hears};
 
 use crate::ends::{Answer, DestEnd, NotNow, PairEvent, SourceEnd};
 use std::marker::Model;
@@ -26,8 +27,11 @@ impl Model for Pair {
 
 impl Pair {
     /// A source that has offered a state with this digest, a destination that stages, and no frame sent.
+    #[tactic(auto, unfolding(crate::specs::Pair::pair_after))]
     pub fn of(digest: [u8; 32]) -> Pair
-        ensures { result ≡ pair_start digest }
+        ensures start { result ≡ pair_start digest }
+        // where no event leads
+        ensures after { result ≡ pair_after digest [] }
     {
         Pair {
             source: SourceEnd::Offered(digest),
@@ -70,16 +74,26 @@ impl Pair {
         ensures refused { IsErr result ↔ IsFalse (can_happen self.old e) }
         ensures unchanged { OnErr result (self.new ≡ self.old) }
         ensures step { self.new ≡ pair_step self.old e }
+        // where the pair stands after any list of events, it then stands after that list and this one
+        ensures after { (own : List ℕ) (past : List PairEvent) → self.old ≡ pair_after own past
+            → self.new ≡ pair_after own (e ∷ past) }
+    {
+        self.make(e)
+    }
+
+    // The event by its kind.
+    fn make(&mut self, e: PairEvent) -> Result<(), NotNow>
+        ensures refused { IsErr result ↔ IsFalse (can_happen self.old e) }
+        ensures unchanged { OnErr result (self.new ≡ self.old) }
+        ensures step { self.new ≡ pair_step self.old e }
     {
         match e {
-            PairEvent::Stage(digest) => self.send_answer(
-                DestEnd::Staged(digest),
-                Answer::Staged(digest),
-            ),
-            PairEvent::Refuse(refusal) => self.send_answer(
-                DestEnd::Refused(refusal),
-                Answer::Refused(refusal),
-            ),
+            PairEvent::Stage(digest) => {
+                self.send_answer(DestEnd::Staged(digest), Answer::Staged(digest))
+            }
+            PairEvent::Refuse(refusal) => {
+                self.send_answer(DestEnd::Refused(refusal), Answer::Refused(refusal))
+            }
             PairEvent::DeliverAnswer => self.deliver_answer(),
             PairEvent::DeliverGo => self.deliver_go(),
             PairEvent::SendGo => self.send_go(),

@@ -1,5 +1,5 @@
 -- A destination runs only where Go was sent, and a source that gave up sends none.
-use Rattle.std.proofs.Common.{[], ◌++◌}
+use Rattle.std.proofs.Common.{◌++◌}
 use Rattle.vfm_control.proofs.Histories.{resumed_none, resumed_sends_none, running_go, go_stays_sent}
 use Rattle.vfm_control.proofs.pair_laws.never_both_run.Goals as goal
 
