@@ -29,3 +29,8 @@ pub use pair_laws::{
     never_both_run, one_more_event, running_was_confirmed, sent_frames_stay,
     undisturbed_pair_moves,
 };
+
+#[cfg(test)]
+mod tests;
+#[cfg(test)]
+mod worked;
