@@ -70,13 +70,15 @@ is_spare_zero bytes = word_at w64 32 bytes == 0 && word_at w32 40 bytes == 0
 abbrev pub frame_marked : ℕ → ℕ → List ℕ → Option Frame
 frame_marked letters session bytes =
     if letters == 0x56464d53 then Some (Staged session (drop 12 bytes)) else
-    (if letters == 0x56464d52 then (if is_spare_zero bytes then Some (Refused session (refusal_at bytes)) else None) else
+    (if letters == 0x56464d52
+    then (if is_spare_zero bytes then Some (Refused session (refusal_at bytes)) else None) else
     (if letters == 0x56464d47 then Some (Go session (drop 12 bytes)) else None))
 
 -- the frame of this session that some bytes are, if they are one
 unfoldable pub frame_at : ℕ → List ℕ → Option Frame
 frame_at session bytes =
-    if length bytes == 44 && word_at w64 4 bytes == session then frame_marked (word_at w32 0 bytes) session bytes else None
+    if length bytes == 44 && word_at w64 4 bytes == session
+    then frame_marked (word_at w32 0 bytes) session bytes else None
 
 -- these are the bytes of this frame of this session
 pub record IsEncodedBy (f : Frame) (session : ℕ) (bytes : List ℕ) : Type 0 where

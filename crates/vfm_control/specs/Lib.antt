@@ -2,3 +2,4 @@ pub mod Words
 pub mod Frame
 pub mod Pair
 pub mod Calls
+pub mod Worked

@@ -50,12 +50,14 @@ can_happen p StopDest = true
 
 -- a source that an answer reaches: one that has offered a state hears its own digest, and nothing else moves it
 abbrev pub source_hears : SourceEnd → Option Answer → SourceEnd
-source_hears (source.Offered own) (Some (answers.Staged digest)) = if bytes_eq digest own then source.Heard own else source.Offered own
+source_hears (source.Offered own) (Some (answers.Staged digest)) =
+    if bytes_eq digest own then source.Heard own else source.Offered own
 source_hears end _ = end
 
 -- a destination that Go reaches: one that has staged the very digest runs, and nothing else moves it
 abbrev pub dest_hears : DestEnd → Option (List ℕ) → DestEnd
-dest_hears (dest.Staged digest) (Some go) = if bytes_eq go digest then dest.Running digest else dest.Staged digest
+dest_hears (dest.Staged digest) (Some go) =
+    if bytes_eq go digest then dest.Running digest else dest.Staged digest
 dest_hears end _ = end
 
 -- what the source does: it sends Go with its own digest
@@ -89,3 +91,15 @@ pub record HasHappened (own : List ℕ) (event : PairEvent) (events : List PairE
   pub earlier : List PairEvent
   pub place : events ≡ later ++ event ∷ earlier
   pub need : IsTrue (can_happen (pair_after own earlier) event)
+
+-- the machine runs at the source again
+abbrev pub SourceRuns : List ℕ → List PairEvent → Type 0
+SourceRuns own events = (pair_after own events).source ≡ source.Resumed
+
+-- the machine runs at the destination, which staged it with this digest
+abbrev pub DestRuns : List ℕ → List PairEvent → List ℕ → Type 0
+DestRuns own events digest = (pair_after own events).dest ≡ dest.Running digest
+
+-- the destination stages the source's own digest, and each frame arrives
+abbrev pub undisturbed_events : List ℕ → List PairEvent
+undisturbed_events own = DeliverGo ∷ SendGo ∷ DeliverAnswer ∷ Stage own ∷ []

@@ -28,14 +28,16 @@ pub fn sent_frame_is_read()
 /// The source's `settle` reads the destination's answer: it is DeliverAnswer. At its own digest it leads to Heard, and a
 /// call that answers another digest or a refusal changes nothing.
 pub fn settle_is_deliver_answer()
-    ensures ok { (p : PairState) (session : ℕ) (own bytes : List ℕ) → p.source ≡ source.Offered own → IsAnswerOf p session bytes
-        → frame_at session bytes ≡ Some (frames.Staged session own)
+    ensures ok { (p : PairState) (session : ℕ) (own bytes : List ℕ) → p.source ≡ source.Offered own
+        → IsAnswerOf p session bytes → frame_at session bytes ≡ Some (frames.Staged session own)
         → LeadsTo p DeliverAnswer (record p { source = source.Heard own }) }
-    ensures unconfirmed { (p : PairState) (session : ℕ) (own theirs bytes : List ℕ) → p.source ≡ source.Offered own
-        → IsAnswerOf p session bytes → frame_at session bytes ≡ Some (frames.Staged session theirs) → theirs ≢ own
+    ensures unconfirmed { (p : PairState) (session : ℕ) (own theirs bytes : List ℕ)
+        → p.source ≡ source.Offered own → theirs ≢ own
+        → IsAnswerOf p session bytes → frame_at session bytes ≡ Some (frames.Staged session theirs)
         → LeadsTo p DeliverAnswer p }
-    ensures refused { (p : PairState) (session : ℕ) (own bytes : List ℕ) (refusal : Refusal) → p.source ≡ source.Offered own
-        → IsAnswerOf p session bytes → frame_at session bytes ≡ Some (frames.Refused session refusal)
+    ensures refused { (p : PairState) (session : ℕ) (own bytes : List ℕ) (refusal : Refusal)
+        → p.source ≡ source.Offered own → IsAnswerOf p session bytes
+        → frame_at session bytes ≡ Some (frames.Refused session refusal)
         → LeadsTo p DeliverAnswer p }
 {}
 
@@ -57,18 +59,21 @@ pub fn give_up_is_give_up()
 /// failed.
 pub fn answer_is_stage_or_refuse()
     ensures staged { (p : PairState) (digest : List ℕ) → p.dest ≡ dest.Staging
-        → LeadsTo p (Stage digest) (record p { dest = dest.Staged digest; answer = Some (answers.Staged digest) }) }
+        → LeadsTo p (Stage digest)
+        (record p { dest = dest.Staged digest; answer = Some (answers.Staged digest) }) }
     ensures refused { (p : PairState) (refusal : Refusal) → p.dest ≡ dest.Staging
-        → LeadsTo p (Refuse refusal) (record p { dest = dest.Refused refusal; answer = Some (answers.Refused refusal) }) }
+        → LeadsTo p (Refuse refusal)
+        (record p { dest = dest.Refused refusal; answer = Some (answers.Refused refusal) }) }
 {}
 
 /// The destination's `finish` reads the source's Go: it is DeliverGo. At the digest that was staged it leads to Running,
 /// and a call that answers another digest changes nothing.
 pub fn finish_is_deliver_go()
-    ensures ok { (p : PairState) (session : ℕ) (digest bytes : List ℕ) → p.dest ≡ dest.Staged digest → IsGoOf p session bytes
-        → frame_at session bytes ≡ Some (frames.Go session digest)
+    ensures ok { (p : PairState) (session : ℕ) (digest bytes : List ℕ) → p.dest ≡ dest.Staged digest
+        → IsGoOf p session bytes → frame_at session bytes ≡ Some (frames.Go session digest)
         → LeadsTo p DeliverGo (record p { dest = dest.Running digest }) }
-    ensures other { (p : PairState) (session : ℕ) (digest theirs bytes : List ℕ) → p.dest ≡ dest.Staged digest
-        → IsGoOf p session bytes → frame_at session bytes ≡ Some (frames.Go session theirs) → theirs ≢ digest
+    ensures other { (p : PairState) (session : ℕ) (digest theirs bytes : List ℕ)
+        → p.dest ≡ dest.Staged digest → theirs ≢ digest
+        → IsGoOf p session bytes → frame_at session bytes ≡ Some (frames.Go session theirs)
         → LeadsTo p DeliverGo p }
 {}

@@ -12,7 +12,8 @@ use crate::frame::FRAME_LEN;
 /// A frame that was encoded is decoded again in its session, and in no other.
 pub fn encoded_frame_is_decoded()
     ensures again { (f : Frame) → IsFrame f → frame_at (session_of f) (frame_bytes f) ≡ Some f }
-    ensures elsewhere { (f : Frame) (session : ℕ) → IsFrame f → session_of f ≢ session → frame_at session (frame_bytes f) ≡ None }
+    ensures elsewhere { (f : Frame) (session : ℕ) → IsFrame f → session_of f ≢ session
+        → frame_at session (frame_bytes f) ≡ None }
     ensures len { (f : Frame) → IsFrame f → length (frame_bytes f) ≡ FRAME_LEN }
     // so no two frames have the same bytes
     ensures once { (f g : Frame) → IsFrame f → IsFrame g → frame_bytes f ≡ frame_bytes g → f ≡ g }
@@ -21,10 +22,12 @@ pub fn encoded_frame_is_decoded()
         → frame_at session (frame_bytes (Refused session r)) ≡ Some (Refused session r) }
 {}
 
-/// Of any bytes, the frame that `frame_at` finds is the one whose bytes they are, and where it finds none there is none.
+/// Of any bytes, the frame that `frame_at` finds is the one whose bytes they are, and where it finds none there is
+/// none.
 pub fn only_frames_are_decoded()
-    ensures some { (f : Frame) (session : ℕ) (bytes : List ℕ) → IsBytes bytes → frame_at session bytes ≡ Some f
-        → IsEncodedBy f session bytes }
+    ensures some { (f : Frame) (session : ℕ) (bytes : List ℕ) → IsBytes bytes
+        → frame_at session bytes ≡ Some f → IsEncodedBy f session bytes }
     ensures none { (session : ℕ) (bytes : List ℕ) → frame_at session bytes ≡ None → IsNoFrame session bytes }
-    ensures found { (f : Frame) (session : ℕ) (bytes : List ℕ) → IsEncodedBy f session bytes → frame_at session bytes ≡ Some f }
+    ensures found { (f : Frame) (session : ℕ) (bytes : List ℕ) → IsEncodedBy f session bytes
+        → frame_at session bytes ≡ Some f }
 {}

@@ -20,7 +20,7 @@ const RISING: [u8; 32] = [
     27, 28, 29, 30, 31, 32,
 ];
 
-const NO_CONFIG: Refusal = Refusal {
+const MISSING: Refusal = Refusal {
     code: 24,
     a: 0,
     b: 0,
@@ -41,7 +41,7 @@ fn changed<const N: usize>(bytes: &[u8; N], place: usize, byte: u8) -> [u8; N] {
 fn worked_frames_are_encoded_and_decoded(rt: HostRuntime) {
     let refused = Frame::Refused {
         session: 7,
-        refusal: NO_CONFIG,
+        refusal: MISSING,
     };
     assert_eq!(rt; encode(&refused), REFUSED);
     assert_eq!(rt; decode(&REFUSED, 7), Some(refused));
@@ -319,10 +319,10 @@ fn pairs_that_do_not_move(rt: HostRuntime) {
     assert_eq!(rt; pair.step(PairEvent::DeliverGo), Err(NotNow));
     // the destination refuses
     let mut pair = Pair::of(X);
-    assert_eq!(rt; pair.step(PairEvent::Refuse(NO_CONFIG)), Ok(()));
+    assert_eq!(rt; pair.step(PairEvent::Refuse(MISSING)), Ok(()));
     assert_eq!(rt; pair.step(PairEvent::Stage(X)), Err(NotNow));
     assert_eq!(rt; pair.step(PairEvent::DeliverAnswer), Ok(()));
     assert_eq!(rt; pair.source(), SourceEnd::Offered(X));
-    assert_eq!(rt; pair.dest(), DestEnd::Refused(NO_CONFIG));
-    assert_eq!(rt; pair.answer(), Some(Answer::Refused(NO_CONFIG)));
+    assert_eq!(rt; pair.dest(), DestEnd::Refused(MISSING));
+    assert_eq!(rt; pair.answer(), Some(Answer::Refused(MISSING)));
 }
