@@ -65,6 +65,10 @@ again f is =
     and_from _ _ (eq-eqb _ _ (length-frame_bytes f is)) (eq-eqb _ _ (session_found f is.session)) in
     rw (test, mark_found f) (marked f is)
 
+-- the same of a frame that is known to be this one
+pub again_at : (f g : Frame) (bytes : List ℕ) → f ≡ g → IsFrame g → bytes ≡ frame_bytes g → frame_at (session_of f) bytes ≡ Some f
+again_at f g bytes is frame encoded = rw (is, encoded) (again g frame)
+
 -- in no other session
 pub elsewhere : (f : Frame) (session : ℕ) → IsFrame f → session_of f ≢ session → frame_at session (frame_bytes f) ≡ None
 unfolding frame_at

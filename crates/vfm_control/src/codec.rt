@@ -1,10 +1,10 @@
 //! Encoding a frame and decoding one.
 
-ghost use Rattle.std.specs.Prelude.{◌≡◌, ◌+◌, ◌≤◌, ◌↔◌, length, drop, IsNone};
-ghost use Rattle.std.specs.Int.{w32, w64};
+ghost use Rattle.std.specs.Prelude.{◌≡◌, ◌+◌, ◌^◌, ◌<◌, ◌≤◌, ◌↔◌, ◌++◌, length, drop, Some, IsNone};
+ghost use Rattle.std.specs.Int.{w32, w64, to_be_bytes};
 ghost use Rattle.vfm_control.specs.Words.{word_at};
 ghost use Rattle.vfm_control.specs.declared.frame.Frame.{Frame};
-ghost use Rattle.vfm_control.specs.Frame.{mark, session_of, body_bytes, frame_bytes, refusal_at, refusal_bytes, frame_at, frame_marked, is_spare_zero, IsEncodedBy, IsNoFrame};
+ghost use Rattle.vfm_control.specs.Frame.{session_of, frame_bytes, refusal_at, refusal_bytes, frame_at, frame_marked, IsDigest, IsRefusal, IsEncodedBy, IsNoFrame};
 
 use crate::frame::{FRAME_LEN, Frame};
 use vfm_types::Refusal;
@@ -16,31 +16,10 @@ const REFUSED: u32 = 0x5646_4d52;
 
 const GO: u32 = 0x5646_4d47;
 
-// The first four bytes of the frame as a number.
-fn mark(f: &Frame) -> u32
-    ensures { result ≡ mark f.now }
-{
-    match f {
-        Frame::Staged { .. } => STAGED,
-        Frame::Refused { .. } => REFUSED,
-        Frame::Go { .. } => GO,
-    }
-}
-
-// The session that the frame names.
-fn session_of(f: &Frame) -> u64
-    ensures { result ≡ session_of f.now }
-{
-    match f {
-        Frame::Staged { session, .. }
-        | Frame::Refused { session, .. }
-        | Frame::Go { session, .. } => { *session }
-    }
-}
-
 // The 32 bytes of a refusal: its three numbers and twelve zeros.
 fn refusal_bytes(refusal: &Refusal) -> [u8; 32]
-    ensures { result ≡ refusal_bytes refusal.now }
+    ensures bytes { result ≡ refusal_bytes refusal.now }
+    ensures fits { IsRefusal refusal.now }
 {
     let c = refusal.code.to_be_bytes();
     let a = refusal.a.to_be_bytes();
@@ -51,26 +30,34 @@ fn refusal_bytes(refusal: &Refusal) -> [u8; 32]
     ]
 }
 
-// The 32 bytes behind the session.
-fn body_bytes(f: &Frame) -> [u8; 32]
-    ensures { result ≡ body_bytes f.now }
+// The 44 bytes of these letters, this session and this body.
+fn frame_with(mark: u32, session: u64, body: [u8; 32]) -> [u8; FRAME_LEN]
+    ensures bytes { result ≡ to_be_bytes w32 mark ++ to_be_bytes w64 session ++ body }
+    ensures session { session < 2 ^ 64 }
+    ensures body { IsDigest body }
 {
-    match f {
-        Frame::Staged { digest, .. } | Frame::Go { digest, .. } => *digest,
-        Frame::Refused { refusal, .. } => refusal_bytes(refusal),
-    }
+    let mut bytes = [0u8; FRAME_LEN];
+    bytes[..4].copy_from_slice(&mark.to_be_bytes());
+    bytes[4..12].copy_from_slice(&session.to_be_bytes());
+    bytes[12..].copy_from_slice(&body);
+    bytes
 }
 
 /// The 44 bytes of a frame, each number big-endian. No other frame has the same bytes.
 #[tactic(auto, unfolding(crate::specs::Frame::frame_bytes))]
 pub fn encode(f: &Frame) -> [u8; FRAME_LEN]
-    ensures { result ≡ frame_bytes f.now }
+    ensures bytes { result ≡ frame_bytes f.now }
+    ensures encoded { IsEncodedBy f.now (session_of f.now) result }
+    // so decoded in its session they are this frame again
+    ensures again { frame_at (session_of f.now) result ≡ Some f.now }
 {
-    let mut bytes = [0u8; FRAME_LEN];
-    bytes[..4].copy_from_slice(&mark(f).to_be_bytes());
-    bytes[4..12].copy_from_slice(&session_of(f).to_be_bytes());
-    bytes[12..].copy_from_slice(&body_bytes(f));
-    bytes
+    match f {
+        Frame::Staged { session, digest } => frame_with(STAGED, *session, *digest),
+        Frame::Refused { session, refusal } => {
+            frame_with(REFUSED, *session, refusal_bytes(refusal))
+        }
+        Frame::Go { session, digest } => frame_with(GO, *session, *digest),
+    }
 }
 
 // The number at a place, its highest byte first.
