@@ -1,0 +1,5 @@
+pub mod Words
+pub mod Frame
+pub mod Pair
+pub mod Calls
+pub mod Worked
