@@ -7,7 +7,7 @@ ghost use Rattle.vfm_types.specs.Desc.{device_count};
 use super::*;
 use std::alloc::Global;
 use std::test::Fail;
-use vfm_types::{Bytes64, Desc, DevShape, Flags, Job, Jobs, Name, NoMemory, Queue, Shapes};
+use vfm_types::{Bars, Bytes64, Desc, DevShape, Flags, Job, Jobs, Name, NoMemory, Queue, Shapes};
 
 // One machine with this device.
 fn machine(alloc: Global, page: u32, pages: u32, shape: DevShape) -> Result<Desc, NoMemory>
@@ -32,7 +32,7 @@ fn small(alloc: Global) -> Result<DevShape, Fail> {
     Ok(DevShape {
         name: Name::of(b"a").ok_or("name")?,
         flags: Flags::of(1).ok_or("flags")?,
-        bar: 128,
+        bars: Bars::of(&[128]).ok_or("bars")?,
         window: 1,
         tells: true,
         budget: 5,
@@ -50,7 +50,7 @@ fn worked(alloc: Global) -> Result<DevShape, Fail> {
     Ok(DevShape {
         name: Name::of(b"a").ok_or("name")?,
         flags: Flags::of(1).ok_or("flags")?,
-        bar: 64,
+        bars: Bars::of(&[64]).ok_or("bars")?,
         window: 1,
         tells: true,
         budget: 1,
@@ -78,7 +78,7 @@ fn large(alloc: Global) -> Result<DevShape, Fail> {
     Ok(DevShape {
         name: Name::of(b"gpu_0").ok_or("name")?,
         flags: Flags::of(7).ok_or("flags")?,
-        bar: 65_536,
+        bars: Bars::of(&[65_536]).ok_or("bars")?,
         window: 8,
         tells: false,
         budget: 50_000,

@@ -4,14 +4,14 @@ ghost use Rattle.std.specs.Prelude.{IfOk, ◌<◌};
 ghost use Rattle.vfm_types.specs.Desc.{device_count};
 ghost use Rattle.vfm_types.specs.Valid.{IsValid};
 
-use crate::{Told, state_digest, write_journal, write_report, write_state};
+use crate::{ReportParts, state_digest, write_journal, write_report, write_state};
 use std::alloc::Global;
 use std::test::Fail;
 use vfm_journal::Journal;
 use vfm_outside::{Failed, MemSink};
 use vfm_plain::Plain;
 use vfm_types::{
-    Bytes64, Desc, DevShape, DeviceId, Entry, Flags, Job, Jobs, MigState, Name, Queue, Shapes,
+    Bars, Bytes64, Desc, DevShape, DeviceId, Entry, Flags, Job, Jobs, MigState, Name, Queue, Shapes,
 };
 
 const STATE: [&str; 6] = [
@@ -42,7 +42,7 @@ fn small_desc(alloc: Global) -> Result<Desc, Fail>
     let shape = DevShape {
         name: Name::of(b"a").ok_or("name")?,
         flags: Flags::of(1).ok_or("flags")?,
-        bar: 64,
+        bars: Bars::of(&[64]).ok_or("bars")?,
         window: 1,
         tells: true,
         budget: 1,
@@ -148,21 +148,23 @@ fn a_report_has_its_parts_in_order(rt: HostRuntime) -> Result<(), Fail> {
     let mut sink = ample(alloc)?;
     let machine = Some(&plain);
     let destination = Some(&journal);
-    let told = Told {
+    let parts = ReportParts {
+        desc: &desc,
         source: &journal,
         joint: machine,
         loaded: machine,
         destination,
-        last: machine,
+        final_state: machine,
     };
-    let answer = write_report(&desc, b"status moved\n", &told, &mut sink);
-    let Told {
+    let answer = write_report(b"status moved\n", &parts, &mut sink);
+    let ReportParts {
+        desc: _,
         source: _,
         joint: _,
         loaded: _,
         destination: _,
-        last: _,
-    } = told;
+        final_state: _,
+    } = parts;
     assert_eq!(rt; answer, Ok(()));
     assert_eq!(rt; sink.bytes(), text.as_slice());
     Ok(())
