@@ -116,7 +116,7 @@ static CONFIG: [u8; 33] = [
     7,
 ];
 
-// The bytes in front of 96, the rest zero, with two places changed.
+// These bytes and zeros after them, 96 in all, with two places changed.
 fn changed(bytes: &[u8], first: (usize, u8), second: (usize, u8)) -> [u8; 96] {
     let mut copy = [0; 96];
     for (to, from) in copy.iter_mut().zip(bytes) {
@@ -412,6 +412,25 @@ fn worked_digests(rt: HostRuntime) -> Result<(), Fail> {
         0xb9, 0xe5,
     ];
     assert_eq!(rt; shape_digest(&other, 1), want);
+    Ok(())
+}
+
+#[test]
+fn several_bars_are_one_word_and_one_range_of_blocks(rt: HostRuntime) -> Result<(), Fail> {
+    let mut shape = small(rt.alloc())?;
+    shape.bars = Bars::of(&[128, 64]).ok_or("bars")?;
+    let desc = machine(rt.alloc(), 16, 1, shape)?;
+    // device a 1 128+64 1 1 5 0
+    let want: [u8; 32] = [
+        0x81, 0x63, 0x70, 0xf6, 0x6f, 0x7c, 0x1a, 0x6e, 0x26, 0xff, 0xe3, 0x24, 0x9a, 0x16, 0x24,
+        0x90, 0xf6, 0xec, 0x8d, 0x96, 0x55, 0x39, 0x24, 0x0f, 0xd0, 0x5d, 0x77, 0x86, 0xb6, 0x0b,
+        0xc9, 0xcb,
+    ];
+    assert_eq!(rt; shape_digest(&desc, 1), want);
+    let last = changed(&BLOCK, (4, 2), (5, 0));
+    assert_eq!(rt; place(&desc, 1, &last, 69), None);
+    let beyond = changed(&BLOCK, (4, 3), (5, 0));
+    assert_eq!(rt; place(&desc, 1, &beyond, 69), Some(1));
     Ok(())
 }
 
