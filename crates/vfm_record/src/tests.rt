@@ -185,7 +185,7 @@ fn places_of_wrong_pages_and_digests(rt: HostRuntime) -> Result<(), Fail> {
         (20, none, Some(20)),
         (22, none, Some(22)),
         (5, none, Some(5)),
-        // page 0, and the pages behind the last one
+        // page 0, and the pages after the last one
         (21, (4, 0), None),
         (21, (4, 2), Some(1)),
         (21, (1, 1), Some(1)),
@@ -219,11 +219,11 @@ fn places_of_wrong_blocks(rt: HostRuntime) -> Result<(), Fail> {
         (69, none, none, None),
         (68, none, none, Some(68)),
         (70, none, none, Some(70)),
-        // the block behind the last one
+        // the block after the last one
         (69, (4, 1), none, None),
         (69, (4, 2), none, Some(1)),
         (69, (3, 1), none, Some(1)),
-        // the doorbell: the first and the last of eight bytes, and the one behind
+        // the doorbell: the first and the last of eight bytes, and the one after
         (69, (5, 1), none, Some(5)),
         (69, (12, 1), none, Some(5)),
         (69, (13, 1), none, None),

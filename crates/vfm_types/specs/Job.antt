@@ -8,7 +8,7 @@ use Rattle.vfm_types.specs.declared.job.Place.{Place}
 use Rattle.vfm_types.specs.declared.desc.Desc.{Desc}
 use Rattle.vfm_types.specs.Region.{region_of}
 
--- a job that waits for each request before it, and that each request behind it waits for
+-- a job that waits for each request before it, and that each request after it waits for
 abbrev pub is_fence : Job → Bool
 is_fence (Write at bytes) = false
 is_fence (Read at len) = true

@@ -81,7 +81,7 @@ bytes_at m place len = take len (drop place.offset (bytes_in m place.region))
 abbrev pub put_at : Machine → Place → List ℕ → Machine
 put_at m place bytes = with_bytes m place.region (splice (bytes_in m place.region) place.offset bytes)
 
--- these bytes put at the front of a device's buffer
+-- these bytes put at the start of a device's buffer
 abbrev pub with_front : Machine → ℕ → List ℕ → Machine
 with_front m d bytes = with_device m d (record (device_of m d) { buf = splice (device_of m d).buf 0 bytes })
 
