@@ -14,7 +14,7 @@ use Rattle.vfm_base.specs.Words.{word_at}
 pub data Record : Type 0 where
   -- a page of memory and its bytes
   Page : ℕ → List ℕ → Record
-  -- a block of the device's BAR and its 64 bytes
+  -- a block of the device's BARs and its 64 bytes
   Block : ℕ → List ℕ → Record
   -- how many requests the device accepted, did, lost and has pending, and its buffer
   Engine : ℕ → ℕ → ℕ → ℕ → List ℕ → Record

@@ -47,7 +47,7 @@ pub fn append_pending(outbox: &mut Vec<u8>, pending: &[(u32, u32)])
     }
 }
 
-/// Appends the device without its BAR.
+/// Appends the device without its BARs.
 pub fn append_device(outbox: &mut Vec<u8>, plain: &Plain)
     requires device { 0 < length plain.now.devices }
     requires few { length (device_of plain.now 0).pending < 2 ^ 32 }
@@ -113,7 +113,7 @@ fn load_pending(plain: &mut Plain, bytes: &[u8], count: u32)
     }
 }
 
-/// Puts the bytes of the device without its BAR into a machine.
+/// Puts the bytes of the device without its BARs into a machine.
 fn load_device(plain: &mut Plain, bytes: &[u8])
     requires device { 0 < length plain.old.devices }
     requires buf { length (device_of plain.old 0).buf ≡ 64 }

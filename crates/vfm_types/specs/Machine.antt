@@ -11,7 +11,7 @@ use Rattle.vfm_types.specs.declared.desc.Desc.{Desc}
 use Rattle.vfm_types.specs.Desc.{shape_at, bar_bytes}
 use Rattle.vfm_types.specs.Job.{place_of, owner_or_zero, is_bell}
 
--- A device: the bytes of its BAR, the requests that it has accepted and not done (number and job, in order), its
+-- A device: the bytes of its BARs, the requests that it has accepted and not done (number and job, in order), its
 -- buffer of 64 bytes, and how many requests it accepted, did, and lost because no such job or no budget was there.
 pub record DeviceState : Type 0 where
   pub bar : List ℕ

@@ -99,7 +99,7 @@ impl Job {
 pub enum Region {
     /// In this page of memory.
     Page(u32),
-    /// In a BAR of this device.
+    /// In the BARs of this device.
     Bar(DeviceId),
 }
 
