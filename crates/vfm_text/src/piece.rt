@@ -71,7 +71,10 @@ pub fn put_hex_line<P: TextWriter>(
         (line word.now (decimal number ∷ encode_lower bytes.now ∷ [])) result }
 {
     let mut digits = Buffer::new();
-    put_all(writer, &[word, b" ", digits.format(number).as_bytes(), b" "])?;
+    put_all(
+        writer,
+        &[word, b" ", digits.format(number).as_bytes(), b" "],
+    )?;
     put_hex(writer, bytes)?;
     writer.put(b"\n")
 }
