@@ -1,4 +1,4 @@
--- The least number that passes a test and how many do, told by a set of pages.
+-- The least number that passes a test and how many do, as a set of pages says it.
 use Rattle.std.proofs.Common.{◌≡◌, ℕ, ◌+◌, ◌-◌, ◌<◌, ◌≤◌, Bool, true, false, cond, List, [], ◌++◌, length, Option, Some, None, IfSome, IfNone, IsTrue, ◌⊎◌, inl, inr, suc, zero, refl, sym, ap, ◌∙◌, arith}
 use Rattle.std.proofs.lemmas.Bool.{cond-true, cond-false, cases_lt, false≢true}
 use Rattle.std.proofs.lemmas.List.{append-nil, length-append}

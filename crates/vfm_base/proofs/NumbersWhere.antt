@@ -163,7 +163,7 @@ same-at n e f g h =
 pub pages_where_same : (f g : ℕ → Bool) → ((q : ℕ) → q < 1024 → f q ≡ g q) → pages_where f ≡ pages_where g
 pages_where_same = same-at 1024 refl
 
--- it is told by its members
+-- it is known by its members
 pub IsPageList-pages_where : (test : ℕ → Bool) → IsPageList (pages_where test)
 IsPageList-pages_where test =
     pages_where_same test (contains_page (pages_where test)) (λ q h. sym (contains-pages_where test q h))

@@ -165,7 +165,7 @@ page_bit_zeros n q =
 pub no_pages : pages_of_words (replicate 16 0) ≡ []
 no_pages = pages_where_none (page_bit (replicate 16 0)) (λ q h. page_bit_zeros 16 q)
 
--- the set that words hold is told by its members
+-- the set that words hold is known by its members
 pub set_of_words : (words xs : List ℕ) → pages_of_words words ≡ xs → IsPageList xs
 set_of_words words xs e = subst IsPageList e (IsPageList-pages_where (page_bit words))
 

@@ -16,7 +16,7 @@ abbrev pub contains_page : List ℕ → ℕ → Bool
 contains_page [] p = false
 contains_page (q ∷ qs) p = q == p || contains_page qs p
 
--- the list is a set of pages: in rising order, none twice, all below 1,024, so that its members alone tell it
+-- the list is a set of pages: in rising order, none twice, all below 1,024, so that its members alone say which it is
 abbrev pub IsPageList : List ℕ → Type 0
 IsPageList pages = pages ≡ pages_where (contains_page pages)
 

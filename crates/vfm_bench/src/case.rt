@@ -3,10 +3,9 @@
 ghost use Rattle.std.specs.Prelude.{◌<◌, ◌≤◌, ◌^◌, IfOk};
 ghost use Rattle.vfm_types.specs.Valid.{IsValid};
 
-use crate::ranges::is_in_range;
 use anyhow::{Result, bail};
 use std::alloc::{AllocError, Global};
-use vfm_types::{Bytes64, Desc, DevShape, Flags, Job, Jobs, Name, Queue, Shapes};
+use vfm_types::{Bars, Bytes64, Desc, DevShape, Flags, Job, Jobs, Name, Queue, Shapes};
 
 /// The most requests that a device accepts.
 pub const MOST_REQUESTS: u32 = 50_000;
@@ -22,7 +21,7 @@ const STRIDE: u64 = 65_536;
 
 /// The description of eight devices that have these requests each: writes of 64 and of 8 bytes and adds, all to memory
 /// of 256 pages of 4,096 bytes.
-pub fn described(alloc: Global, requests: u32) -> Result<Desc>
+pub fn sized_description(alloc: Global, requests: u32) -> Result<Desc>
     ensures { IfOk result IsValid }
 {
     let devices = shapes(alloc, requests)?;
@@ -37,7 +36,7 @@ pub fn described(alloc: Global, requests: u32) -> Result<Desc>
         threshold: 0,
         devices,
     };
-    if !is_in_range(&desc) {
+    if !desc.is_in_range() {
         bail!("a number of the description is out of its range");
     }
     match Desc::new(desc) {
@@ -71,12 +70,15 @@ fn shape(alloc: Global, d: u8, requests: u32) -> Result<DevShape>
     let Some(flags) = Flags::of(7) else {
         bail!("no flags");
     };
+    let Some(bars) = Bars::of(&[4096]) else {
+        bail!("no BARs");
+    };
     let jobs = jobs(alloc, u64::from(d) * STRIDE)?;
     let queue = queue(alloc, requests)?;
     Ok(DevShape {
         name,
         flags,
-        bar: 4096,
+        bars,
         window: 4,
         tells: true,
         budget: requests,

@@ -4,7 +4,6 @@
 #![tactic(auto)]
 
 mod case;
-mod ranges;
 mod run;
 
 use anyhow::{Result, bail};
@@ -50,7 +49,7 @@ fn asked_requests(rt: &(impl Env + AllocGlobal)) -> Result<u32> {
 fn main(rt: HostRuntime) -> Result<()> {
     let alloc = rt.alloc();
     let requests = asked_requests(&rt)?;
-    let desc = case::described(alloc, requests)?;
+    let desc = case::sized_description(alloc, requests)?;
     let Ok(mut plain) = Plain::of(alloc, &desc) else {
         bail!("no memory for the machine");
     };

@@ -1,4 +1,4 @@
--- Machines with one device, two places in its window, and a fence in front of a write; the second one can't tell
+-- Machines with one device, two places in its window, and a fence before a write; the second one can't tell
 -- peer-to-peer DMA from other DMA.
 use Rattle.std.specs.Prelude.{false, [], ◌∷◌}
 use Rattle.vfm_types.specs.declared.desc.Desc.{Desc}

@@ -72,7 +72,7 @@ given_up_stopped =
     take 54 duo_ordered
     ++ Abort ∷ Arc 0 Stop ∷ Arc 0 RunningP2p ∷ Arc 1 Stop ∷ Arc 1 RunningP2p ∷ Arc 0 Running ∷ Arc 1 Running ∷ []
 
--- behind Joint
+-- after Joint
 abbrev pub given_up_joint : List Entry
 given_up_joint =
     take 55 duo_ordered
@@ -84,7 +84,7 @@ given_up_last_pass =
     take 58 duo_ordered
     ++ Abort ∷ Arc 0 Stop ∷ Arc 0 RunningP2p ∷ Arc 1 Stop ∷ Arc 1 RunningP2p ∷ Arc 0 Running ∷ Arc 1 Running ∷ []
 
--- behind the last pass
+-- after the last pass
 abbrev pub given_up_last_ended : List Entry
 given_up_last_ended =
     take 61 duo_ordered

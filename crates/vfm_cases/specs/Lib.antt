@@ -11,6 +11,7 @@ pub mod Reading
 pub mod Fences
 pub mod Early
 pub mod Faulty
+pub mod TwoBars
 pub mod Edits
 pub mod Pair
 pub mod Printed

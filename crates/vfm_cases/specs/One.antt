@@ -70,7 +70,7 @@ one_marked =
     Begin ∷ Issue 0 0 ∷ Pass 1 ∷ Deliver 0 0 ∷ Copy 0 ∷ Complete 0 0 ∷ Copy 1 ∷ Hold 0 Stop ∷ Arc 0 Stop ∷ Arc 0 StopCopy
     ∷ Joint ∷ Report 0 ∷ Pass 2 ∷ Copy 1 ∷ Block 0 0 ∷ []
 
--- a run in which the write is delivered before the first report and completes behind it
+-- a run in which the write is delivered before the first report and completes after it
 abbrev pub one_late : List Entry
 one_late =
     Begin ∷ Pass 1 ∷ Issue 0 0 ∷ Copy 0 ∷ Copy 1 ∷ Deliver 0 0 ∷ Report 0 ∷ Pass 2 ∷ Complete 0 0 ∷ Hold 0 Stop ∷ Arc 0 Stop

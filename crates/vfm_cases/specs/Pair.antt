@@ -1,5 +1,5 @@
 -- A machine of 64 pages of 4,096 bytes: the first device writes into the second one's BAR and rings its doorbell, by
--- which the second one adds 5 to the number at the front of page 2.
+-- which the second one adds 5 to the number at the start of page 2.
 use Rattle.std.specs.Prelude.{true, List, [], ◌∷◌, ◌++◌, replicate}
 use Rattle.vfm_types.specs.declared.desc.Desc.{Desc}
 use Rattle.vfm_types.specs.declared.desc.DevShape.{DevShape}

@@ -3,7 +3,7 @@ use Rattle.std.specs.Prelude.{List, [], ◌∷◌, ◌++◌, ℕ, Some, None, co
 use Rattle.std.specs.List.{flat_map}
 use Rattle.vfm_types.specs.Machine.{Machine}
 use Rattle.vfm_types.specs.Deliveries.{machine_of}
-use Rattle.vfm_plain.specs.Report.{Told}
+use Rattle.vfm_plain.specs.Report.{Made}
 use Rattle.vfm_cases.specs.One.{one, one_source, one_home, one_joined, one_fails_first}
 use Rattle.vfm_types.specs.declared.entry.Entry.TheVariants.{Resume}
 
@@ -24,10 +24,11 @@ one_state_lines =
     ∷ codes "bar 0 00000000000000000000000000000000000000000000000000000000000000000000000000000000000000000000000000000000000000000000000000000000"
     ∷ []
 
--- what is told of it where it was moved
-abbrev pub one_moved : Told
+-- what its run made where it was moved
+abbrev pub one_moved : Made
 one_moved =
     record {
+      desc = one;
       source = one_source;
       joint = Some one_end;
       loaded = None;
@@ -44,9 +45,17 @@ one_report_lines =
     ++ codes "journal destination" ∷ codes "resume" ∷ codes "arc 0 STOP" ∷ codes "arc 0 RUNNING" ∷ codes "state final" ∷ []
     ++ one_state_lines ++ codes "end" ∷ []
 
--- what is told where its first arc failed
-abbrev pub one_failed : Told
-one_failed = record { source = one_fails_first; joint = None; loaded = None; destination = None; final = Some one_end }
+-- what its run made where its first arc failed
+abbrev pub one_failed : Made
+one_failed =
+    record {
+      desc = one;
+      source = one_fails_first;
+      joint = None;
+      loaded = None;
+      destination = None;
+      final = Some one_end;
+    }
 
 -- its report there
 abbrev pub one_failed_lines : List (List ℕ)

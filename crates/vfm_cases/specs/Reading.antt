@@ -24,7 +24,7 @@ reading_begun = Begin ∷ Arc 0 PreCopy ∷ Arc 1 PreCopy ∷ Pass 1 ∷ Copy 0 
 abbrev pub reading_early : List Entry
 reading_early = reading_begun ++ Issue 1 0 ∷ Deliver 1 0 ∷ []
 
--- the write comes behind the reading of block 1
+-- the write comes after the reading of block 1
 abbrev pub reading_late : List Entry
 reading_late = reading_begun ++ Block 0 1 ∷ Issue 1 0 ∷ Deliver 1 0 ∷ []
 

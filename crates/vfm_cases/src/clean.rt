@@ -18,7 +18,8 @@ pub fn whole_runs_are_legal_and_clean()
     ensures bells { IsClean bell (reverse bell_joined) }
 {}
 
-/// A delivery by a stopped device, and one into the BAR of a stopped device. A delivery into a page asks its issuer alone.
+/// A delivery by a stopped device, and one into the BARs of a stopped device. A delivery into a page asks its issuer
+/// alone.
 pub fn stopped_devices_are_left_alone()
     ensures running { is_clean_step peers (reverse peers_held) (Deliver 0 0) ≡ true }
     ensures issuer { is_clean_step peers (Arc 0 Stop ∷ reverse peers_held) (Deliver 0 0) ≡ false }

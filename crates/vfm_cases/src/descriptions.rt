@@ -51,7 +51,8 @@ pub fn ranges_lie_in_one_place()
     ensures nowhere { form_fault (with_jobs (Read 269484032 1 ∷ [])) ≡ Some (Crosses 0 0) }
 {}
 
-/// A job isn't aimed at its own device's BAR, and touches the first 8 bytes of another one by a doorbell or a read alone.
+/// A job isn't aimed at its own device's BARs, and touches the first 8 bytes of another one's BAR 0 by a doorbell or a
+/// read alone.
 #[tactic(auto, unfolding(vfm_types::specs::DescFault::form_fault))]
 pub fn bars_are_guarded()
     ensures own { form_fault (with_jobs (Read 268435456 1 ∷ [])) ≡ Some (OwnBar 0 0) }
@@ -79,7 +80,7 @@ pub fn regions_are_found()
     ensures below { region_of peers 268435455 1 ≡ None }
 {}
 
-/// Eight bytes written at offset 0 of a BAR are a doorbell; nothing else is.
+/// Eight bytes written at offset 0 of a BAR 0 are a doorbell; nothing else is.
 pub fn doorbells_are_known()
     ensures write { is_doorbell peers (Write 268959744 (eight 0)) ≡ true }
     ensures store { is_doorbell peers (Store 268959744 8) ≡ true }

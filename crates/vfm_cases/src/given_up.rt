@@ -66,7 +66,7 @@ pub fn given_up_stopped_goes_on()
     ensures ended { went_on duo (reverse given_up_stopped) ≡ true }
 {}
 
-/// Behind Joint.
+/// After Joint.
 pub fn given_up_joint_goes_on()
     ensures legal { broken duo given_up_joint ≡ None }
     ensures ended { went_on duo (reverse given_up_joint) ≡ true }
@@ -78,7 +78,7 @@ pub fn given_up_last_pass_goes_on()
     ensures ended { went_on duo (reverse given_up_last_pass) ≡ true }
 {}
 
-/// Behind the last pass.
+/// After the last pass.
 pub fn given_up_last_ended_goes_on()
     ensures legal { broken duo given_up_last_ended ≡ None }
     ensures ended { went_on duo (reverse given_up_last_ended) ≡ true }

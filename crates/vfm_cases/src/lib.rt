@@ -2,6 +2,7 @@
 //! themselves. Journals are given to `broken` oldest first, and to every fact newest first.
 #![tactic(auto)]
 
+pub mod bars;
 pub mod blocks;
 pub mod changed;
 pub mod clean;

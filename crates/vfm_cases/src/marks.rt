@@ -8,7 +8,7 @@ ghost use Rattle.vfm_base.specs.PageSet.{numbers_where};
 ghost use Rattle.vfm_cases.specs.One.{one_early, one_marked, one_late};
 ghost use Rattle.vfm_cases.specs.Rounds.{rounds_two, rounds_second};
 
-/// The write completes behind Begin and before the report: the last pass is over its page alone.
+/// The write completes after Begin and before the report: the last pass is over its page alone.
 pub fn completed_write_is_in_the_next_set()
     ensures first { numbers_where (λ p. is_in_set (one_early 1) p (reverse (take 3 one_marked))) 0 2 ≡ 0 ∷ 1 ∷ [] }
     ensures undelivered { is_marked (one_early 1) 0 1 (reverse (take 4 one_marked)) ≡ false }
@@ -17,8 +17,8 @@ pub fn completed_write_is_in_the_next_set()
     ensures last { numbers_where (λ p. is_in_set (one_early 1) p (reverse one_marked)) 0 2 ≡ 1 ∷ [] }
 {}
 
-/// The write is delivered before the report and completes behind it: the pass behind that report is over nothing, and
-/// the one behind the next report is over its page.
+/// The write is delivered before the report and completes after it: the pass after that report is over nothing, and
+/// the one after the next report is over its page.
 pub fn late_write_is_in_the_set_after()
     ensures second { numbers_where (λ p. is_in_set (one_early 2) p (reverse (take 8 one_late))) 0 2 ≡ [] }
     ensures nothing { next_copy (one_early 2) (reverse (take 8 one_late)) ≡ None }

@@ -29,7 +29,7 @@ pub fn peer_write_is_done()
     ensures plain { plain peers (delivers peers_joined) ≡ Some (machine_of peers (reverse peers_joined)) }
 {}
 
-/// A doorbell gives its owner a request, which stands pending at Joint and is done behind it; no byte of the BAR changes.
+/// A doorbell gives its owner a request, which stands pending at Joint and is done after it; no byte of the BAR changes.
 pub fn doorbell_gives_a_request()
     ensures accepted { (device_of (machine_of bell (reverse bell_rung)) 1).accepted ≡ 1 }
     ensures pending { (device_of (machine_of bell (reverse bell_rung)) 1).pending ≡ (0, 1) ∷ [] }
@@ -46,7 +46,7 @@ pub fn doorbells_are_lost()
     ensures pending { (device_of (machine_of three_bells (reverse three_bells_rung)) 1).pending ≡ (0, 1) ∷ [] }
 {}
 
-/// Two writes at one address in the order in which they are delivered; the read behind them is enabled when it is first.
+/// Two writes at one address in the order in which they are delivered; the read after them is enabled when it is first.
 pub fn later_delivery_wins()
     ensures byte { (machine_of window_two (reverse window_delivered)).pages ≡ (170 ∷ replicate 15 0) ∷ [] }
     ensures first { is_enabled window_two (described window_two) 0 0 ≡ true }
@@ -56,7 +56,7 @@ pub fn later_delivery_wins()
     ensures refused { plain window_two ((0, 1) ∷ (0, 2) ∷ []) ≡ None }
 {}
 
-/// An Add wraps and gives the old bytes back; a Store puts the front of the buffer.
+/// An Add wraps and gives the old bytes back; a Store puts the start of the buffer.
 pub fn add_wraps()
     ensures page { (machine_of carry (reverse carry_added)).pages ≡ replicate 16 0 ∷ [] }
     ensures buf { (device_of (machine_of carry (reverse carry_added)) 0).buf ≡ replicate 8 255 ++ replicate 56 0 }

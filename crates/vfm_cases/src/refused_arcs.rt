@@ -12,7 +12,7 @@ ghost use Rattle.vfm_cases.specs.Trio.{trio, trio_two_quiet, trio_one_stopped, t
 ghost use Rattle.vfm_cases.specs.Rounds.{rounds_two, rounds_second};
 ghost use Rattle.vfm_cases.specs.Early.{early, early_half};
 
-/// A hold while the move isn't on, behind Joint, or of a device that is held.
+/// A hold while the move isn't on, after Joint, or of a device that is held.
 pub fn hold_out_of_order_is_refused()
     ensures early { broken one (Hold 0 Stop ∷ []) ≡ Some (0, Order) }
     ensures joint { broken one (one_source ++ Hold 0 Stop ∷ []) ≡ Some (12, Order) }
@@ -31,7 +31,7 @@ pub fn wrong_hold_is_refused()
     ensures stop_copy { broken early (early_half ++ Hold 0 StopCopy ∷ []) ≡ Some (14, Quiet) }
 {}
 
-/// An arc before the move begins, behind Joint, or behind a failed one.
+/// An arc before the move begins, after Joint, or after a failed one.
 pub fn arc_out_of_order_is_refused()
     ensures early { broken trio (Arc 0 RunningP2p ∷ []) ≡ Some (0, Order) }
     ensures joint { broken one (one_source ++ Arc 0 Stop ∷ []) ≡ Some (12, Order) }
@@ -72,7 +72,7 @@ pub fn arc_without_quiet_is_refused()
     ensures home { broken trio (trio_one_stopped ++ Abort ∷ Arc 0 Running ∷ []) ≡ Some (10, Quiet) }
 {}
 
-/// A failing arc before the move begins, behind Joint, or behind another one.
+/// A failing arc before the move begins, after Joint, or after another one.
 pub fn fail_out_of_order_is_refused()
     ensures early { broken (one_failing 1) (Fail 0 Stop ∷ []) ≡ Some (0, Order) }
     ensures joint { broken (one_failing 3) (one_source ++ Fail 0 Stop ∷ []) ≡ Some (12, Order) }

@@ -17,7 +17,7 @@ pub fn report_out_of_order_is_refused()
     ensures aborted { broken early (early_ended ++ Abort ∷ Report 0 ∷ []) ≡ Some (8, Order) }
 {}
 
-/// A report before a pass has begun or ended, a second one, one once it is decided that the devices stop, and one behind
+/// A report before a pass has begun or ended, a second one, one once it is decided that the devices stop, and one after
 /// the last pass.
 pub fn wrong_report_is_refused()
     ensures unbegun { broken early (Begin ∷ Report 0 ∷ []) ≡ Some (1, Pages) }

@@ -9,7 +9,7 @@ ghost use Rattle.vfm_cases.specs.Lone.{lone, lone_source};
 ghost use Rattle.vfm_cases.specs.Peers.{peers, peers_quiet, peers_stopped};
 ghost use Rattle.vfm_cases.specs.Window.{window_two, window_full};
 
-/// A second beginning, and one behind giving up.
+/// A second beginning, and one after giving up.
 pub fn begin_out_of_order_is_refused()
     ensures twice { broken peers (Begin ∷ Begin ∷ []) ≡ Some (1, Order) }
     ensures aborted { broken peers (Abort ∷ Begin ∷ []) ≡ Some (1, Order) }
@@ -40,20 +40,20 @@ pub fn early_joint_is_refused()
     ensures both { broken peers (peers_stopped ++ Joint ∷ []) ≡ None }
 {}
 
-/// Giving up a second time, or behind Resume.
+/// Giving up a second time, or after Resume.
 pub fn abort_out_of_order_is_refused()
     ensures twice { broken one (one_aborted ++ Abort ∷ []) ≡ Some (15, Order) }
     ensures resumed { broken one (one_joined ++ Abort ∷ []) ≡ Some (15, Order) }
 {}
 
-/// Taking over before the move begins, behind giving up, or a second time.
+/// Taking over before the move begins, after giving up, or a second time.
 pub fn resume_out_of_order_is_refused()
     ensures early { broken one (Resume ∷ []) ≡ Some (0, Order) }
     ensures aborted { broken one (one_aborted ++ Resume ∷ []) ≡ Some (15, Order) }
     ensures twice { broken one (one_joined ++ Resume ∷ []) ≡ Some (15, Order) }
 {}
 
-/// Taking over before Joint, before the last pass, before it has ended, and not behind an earlier pass alone.
+/// Taking over before Joint, before the last pass, before it has ended, and not after an earlier pass alone.
 pub fn early_resume_is_refused()
     ensures unjoint { broken one (take 7 one_source ++ Resume ∷ []) ≡ Some (7, Standing) }
     ensures passless { broken one (take 8 one_source ++ Resume ∷ []) ≡ Some (8, Standing) }

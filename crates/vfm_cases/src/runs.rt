@@ -16,7 +16,7 @@ ghost use Rattle.vfm_cases.specs.Sums.{carry, carry_stored};
 ghost use Rattle.vfm_cases.specs.Reading.{reading, reading_again};
 
 /// One device with one write, moved without a pass before it stops: the source's journal, and the destination's
-/// behind it.
+/// after it.
 pub fn one_device_is_moved()
     ensures source { broken one one_source ≡ None }
     ensures last { is_last_ended one (reverse one_source) ≡ true }
@@ -25,7 +25,7 @@ pub fn one_device_is_moved()
     ensures moved { went_on one (reverse one_joined) ≡ false }
 {}
 
-/// The source gives up behind its last pass, or before everything, and goes on to its end.
+/// The source gives up after its last pass, or before everything, and goes on to its end.
 pub fn one_device_goes_on()
     ensures aborted { broken one one_aborted ≡ None }
     ensures went_on_last { went_on one (reverse one_aborted) ≡ true }
@@ -34,7 +34,7 @@ pub fn one_device_goes_on()
     ensures not_yet { went_on one (reverse one_source) ≡ false }
 {}
 
-/// A write that completes within a pass, and one that completes behind the report of it.
+/// A write that completes within a pass, and one that completes after the report of it.
 pub fn writes_within_passes_are_legal()
     ensures within { broken (one_early 1) one_marked ≡ None }
     ensures behind { broken (one_early 2) one_late ≡ None }

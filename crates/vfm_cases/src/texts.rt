@@ -14,9 +14,9 @@ ghost use Rattle.vfm_cases.specs.Printed.{lines, one_end, one_state_lines, one_m
 
 /// The whole report of one device with one write: where it was moved, and where its first arc failed.
 pub fn reports_are_printed()
-    ensures moved { report_text one (codes "status moved" ++ 10 ∷ []) (Some one_moved) ≡ lines one_report_lines }
-    ensures failed { report_text one (codes "status arc-failed 0 STOP" ++ 10 ∷ []) (Some one_failed) ≡ lines one_failed_lines }
-    ensures bare { report_text one (codes "status no-memory" ++ 10 ∷ []) None ≡ codes "status no-memory" ++ 10 ∷ [] }
+    ensures moved { report_text (codes "status moved" ++ 10 ∷ []) (Some one_moved) ≡ lines one_report_lines }
+    ensures failed { report_text (codes "status arc-failed 0 STOP" ++ 10 ∷ []) (Some one_failed) ≡ lines one_failed_lines }
+    ensures bare { report_text (codes "status no-memory" ++ 10 ∷ []) None ≡ codes "status no-memory" ++ 10 ∷ [] }
 {}
 
 /// A state; a device with a pending request.

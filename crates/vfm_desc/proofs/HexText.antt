@@ -1,4 +1,4 @@
--- The bytes that a text of hex digits spells.
+-- The bytes that a text of hex digits encodes.
 use Rattle.std.proofs.Common.{◌≡◌, ℕ, ◌≤◌, List, length, Option, Some, None, Result, Ok, refl, ap, arith}
 use Rattle.std.specs.Prelude.{IsSome, IfSome}
 use Rattle.std.specs.Option.{ok_or}

@@ -9,7 +9,7 @@ use Rattle.vfm_types.specs.declared.fault.DescFault.{DescFault}
 use Rattle.vfm_types.specs.declared.fault.DescFault.TheVariants as fault
 use Rattle.vfm_desc.specs.Reading.{◌>>=◌, Fails, each}
 
--- a fault is want of memory, or the one that was to come
+-- a fault is that memory ran out, or the one that was to come
 pub Fails-cases : {Y : Type 0} (e : DescFault) (read : Result Y DescFault) → Fails e read → (e ≡ fault.NoMemory) ⊎ (read ≡ Err e)
 Fails-cases fault.NoMemory read h = inl refl
 Fails-cases fault.NotJson read h = inr h

@@ -90,7 +90,7 @@ name_in holder level = do
   sound ← check (is_name text) (fault.Range (field_at level Name))
   Ok text
 
--- the 1 to 64 bytes that 2 to 128 hex digits of either case spell
+-- the 1 to 64 bytes that 2 to 128 hex digits of either case encode
 abbrev pub bytes_of_hex : List ℕ → Option (List ℕ)
 bytes_of_hex text = if nat_le 2 (length text) && nat_le (length text) 128 then result_ok (decode_of text) else None
 

@@ -11,8 +11,8 @@ ghost use Rattle.vfm_desc.specs.BuiltForms.{IsShapeBuilt, is_write};
 ghost use Rattle.vfm_desc.specs.Reading.{Gives, each, number_in};
 ghost use Rattle.vfm_desc.specs.Described as spec;
 
-use crate::sizes::bars;
 use crate::reading::{JobKind, Level, bytes, kind, list, name, number, tells, whole_number};
+use crate::sizes::bars;
 use serde_json::Value;
 use std::alloc::Global;
 use vfm_types::{DescFault, DevShape, FieldName, Flags, Job, Jobs, Queue, Shapes};

@@ -13,7 +13,7 @@ use serde_json::Value;
 use std::alloc::Global;
 use vfm_types::{Bars, DescFault, FieldName};
 
-/// A device has at most so many BARs.
+/// A device has at most so many BARs. A longer list is refused before memory is taken for its sizes.
 const MOST_BARS: usize = 6;
 
 // the size of a BAR

@@ -4,7 +4,7 @@ use std::alloc::{AllocError, Global};
 use vfm_desc::{member_name, read_desc};
 use vfm_types::{DescFault, Field};
 
-// the member behind the objects that it stands in
+// the member after the objects that it stands in
 fn member(alloc: Global, what: &str, field: Field) -> Result<String, AllocError> {
     let name = member_name(field.name);
     let device = field.device;
@@ -18,7 +18,7 @@ fn member(alloc: Global, what: &str, field: Field) -> Result<String, AllocError>
     }
 }
 
-// the words that tell a fault
+// the words that report a fault
 fn fault_line(alloc: Global, fault: DescFault) -> Result<String, AllocError> {
     match fault {
         DescFault::NotJson => format!(in alloc; "not-json"),
@@ -42,7 +42,7 @@ fn fault_line(alloc: Global, fault: DescFault) -> Result<String, AllocError> {
     }
 }
 
-/// What the reader answers: `valid`, or the words that tell the fault.
+/// What the reader answers: `valid`, or the words that report the fault.
 pub(crate) fn answer(alloc: Global, bytes: &[u8]) -> Result<String, AllocError> {
     match read_desc(alloc, bytes) {
         Ok(_) => format!(in alloc; "valid"),

@@ -17,7 +17,7 @@ const BYTES: [(&str, &[u8]); 12] = [
     ("a line end in a text", b"{\"a\":\"\n\"}"),
     ("byte 1F in a text", b"{\"a\":\"\x1F\"}"),
     ("byte 7F in a text", b"{\"a\":\"\x7F\"}"),
-    ("a zero behind", b"{}\x00"),
+    ("a zero after it", b"{}\x00"),
     ("blanks round it", b" \t\r\n{ } \r\n\t "),
 ];
 
@@ -51,8 +51,8 @@ pub(crate) fn digits(rt: &impl Print, alloc: Global) -> io::Result<()> {
     Ok(())
 }
 
-/// Every front of a description.
-pub(crate) fn fronts(rt: &impl Print, alloc: Global, base: &str) -> io::Result<()> {
+/// Every prefix of a description: none is a description.
+pub(crate) fn prefixes(rt: &impl Print, alloc: Global, base: &str) -> io::Result<()> {
     let text = base.as_bytes();
     let mut refused = 0u64;
     for end in 0..text.len() {
@@ -60,10 +60,10 @@ pub(crate) fn fronts(rt: &impl Print, alloc: Global, base: &str) -> io::Result<(
             refused = refused.saturating_add(1);
         }
     }
-    println!(rt; "{} bytes, {refused} fronts are not-json", text.len())
+    println!(rt; "{} bytes, {refused} prefixes are not-json", text.len())
 }
 
-// the text and blanks behind it, so many bytes in all
+// the text and blanks after it, so many bytes in all
 fn padded(alloc: Global, text: &[u8], len: usize) -> Result<Vec<u8>, AllocError> {
     let mut bytes = Vec::from_slice(alloc, text)?;
     let blanks = len.saturating_sub(text.len());

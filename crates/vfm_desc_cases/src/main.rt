@@ -63,7 +63,7 @@ fn main(rt: HostRuntime) -> io::Result<()> {
     made::bytes(&rt, alloc)?;
     made::depths(&rt, alloc)?;
     made::digits(&rt, alloc)?;
-    made::fronts(&rt, alloc, base.as_str())?;
+    made::prefixes(&rt, alloc, base.as_str())?;
     made::lengths(&rt, alloc, base.as_str())?;
     made::jobs(&rt, alloc, base.as_str())?;
     made::queues(&rt, alloc, base.as_str())

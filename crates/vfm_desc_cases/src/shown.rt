@@ -21,9 +21,10 @@ fn show_job(rt: &impl Print, job: &Job) -> io::Result<()> {
 fn show_device(rt: &impl Print, device: &DevShape) -> io::Result<()> {
     let name = device.name.bytes();
     let flags = device.flags.bits();
+    let bars = device.bars.as_slice();
     println!(rt;
-        "device {name:?} flags {flags} bar {} window {}",
-        device.bar, device.window
+        "device {name:?} flags {flags} bars {bars:?} window {}",
+        device.window
     )?;
     println!(rt;
         "tells {} budget {} fails {}",

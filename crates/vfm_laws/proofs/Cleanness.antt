@@ -33,7 +33,7 @@ page_bar p t same = cc
 bar_same : (s t : ℕ) → Bar s ≡ Bar t → s ≡ t
 bar_same s t same = cc
 
--- only devices of the description have a BAR that a job can be aimed at
+-- only devices of the description have BARs that a job can be aimed at
 pub bar_inside : (D : Desc) (job : Job) (t : ℕ) → (place_of D job).region ≡ Bar t → t < device_count D
 bar_inside D job t aimed =
     by_bool (is_in_page D at len)
@@ -81,7 +81,7 @@ module _ (D : Desc) (valid : IsValid D) (past : List Entry) (d n : ℕ) (legal :
   issuer_awake = false_from_ne_true (is_stopped (state_of d past))
       (λ still. false≢true (sym (ap (is_undelivered n) (((keeps_states D valid past legal.2).0 d issuer).still still)) ∙ undelivered))
 
-  -- nor is the device whose BAR it is aimed at
+  -- nor is the device whose BARs it is aimed at
   pub target_awake : (t : ℕ) → (place_of D (job_of D (machine_of D past) d n)).region ≡ Bar t → is_stopped (state_of t past) ≡ false
   target_awake t aimed = false_from_ne_true (is_stopped (state_of t past)) asleep
     where
@@ -106,7 +106,7 @@ module _ (D : Desc) (valid : IsValid D) (past : List Entry) (d n : ℕ) (legal :
       asleep still = both_ways (is_quiet_state (state_of d past)) (running_wild (state_of d past) running)
           ((keeps_states D valid past legal.2).1 t d (bar_inside D (job_of D (machine_of D past) d n) t aimed) issuer still)
 
--- a region is awake where it is no stopped device's BAR
+-- a region is awake where it is no stopped device's BARs
 region_awake : (region : Region) (past : List Entry) → ((t : ℕ) → region ≡ Bar t → is_stopped (state_of t past) ≡ false) → is_awake region past ≡ true
 region_awake (Page p) past each = refl
 region_awake (Bar t) past each = not_from_false (is_stopped (state_of t past)) (each t refl)

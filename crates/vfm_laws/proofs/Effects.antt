@@ -1,4 +1,4 @@
--- What the effect of a request changes of the devices' queues: at most one request more, behind the others.
+-- What the effect of a request changes of the devices' queues: at most one request more, after the others.
 use Rattle.std.proofs.Common.{◌≡◌, ℕ, ◌<◌, ◌≤◌, ◌&&◌, if◌then◌else◌, List, [], ◌∷◌, length, get_or, take, nat_lt, refl, ap, sym, ◌∙◌, subst, arith, ltb-true, ⊎_elim}
 use Rattle.std.proofs.lemmas.Bool.{and_parts, cases_lt, cases_eq}
 use Rattle.std.proofs.lemmas.List.{append-nil, length-set, get_or-set_same, get_or-set_other, set_past}

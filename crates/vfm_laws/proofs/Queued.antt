@@ -20,7 +20,7 @@ use Rattle.vfm_laws.proofs.Conditions.{HasTurn}
 abbrev pub issued : ℕ → DeviceState → Outstanding
 issued n device = record { number = n; job = job_or_zero n device.pending; is_delivered = false }
 
--- What the turn of a request says of it: it is the first pending one behind those that wait.
+-- What the turn of a request says of it: it is the first pending one after those that wait.
 pub turn_head : (D : Desc) (d n : ℕ) (device : DeviceState) (requests : List Outstanding) → QueueKept D d device requests
     → HasTurn D d n device requests
     → (rest : List (ℕ × ℕ)) × (device.pending ≡ waiting requests ++ (n, job_or_zero n device.pending) ∷ rest) × (is_outstanding n requests ≡ false)

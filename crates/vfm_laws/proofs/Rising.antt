@@ -74,7 +74,7 @@ unlisted_grown k (r ∷ requests) high jobs below unlisted =
     let parts = or_parts (r.0 == k) (is_listed k requests) unlisted in
     or_from (r.0 == k) (is_listed k (requests ++ numbered high jobs)) parts.0 (unlisted_grown k requests high jobs below parts.1)
 
--- what stands behind some of these is at least where they begin
+-- what stands after some of these is at least where they begin
 rising_at : (low : ℕ) (front : List (ℕ × ℕ)) (r : ℕ × ℕ) (back : List (ℕ × ℕ)) (high : ℕ) → IsRising low (front ++ r ∷ back) high → low ≤ r.0
 rising_at low [] r back high rising = rising.0
 rising_at low (q ∷ front) r back high rising =

@@ -16,7 +16,7 @@ pub legal_before : (D : Desc) (later past : List Entry) → IsLegal D (later ++ 
 legal_before D [] past legal = legal
 legal_before D (entry ∷ later) past legal = legal_before D later past legal.2
 
--- a walk goes on behind a legal list as if it began there
+-- a walk goes on after a legal list as if it began there
 pub walk_behind : (D : Desc) (past rest : List Entry) → IsLegal D past → broken D (reverse past ++ rest) ≡ broken_from D past (length past) rest
 walk_behind D [] rest legal = refl
 walk_behind D (entry ∷ past) rest legal =

@@ -6,7 +6,7 @@ use Rattle.vfm_types.specs.declared.desc.Desc.{Desc}
 use Rattle.vfm_plain.specs.Rules.{fault_of}
 use Rattle.vfm_plain.specs.Clean.{is_clean_step}
 
--- a fault in front of others, if there is one
+-- a fault before others, if there is one
 abbrev pub with_fault : ℕ → Option Rule → List (ℕ × Rule) → List (ℕ × Rule)
 with_fault place None faults = faults
 with_fault place (Some rule) faults = (place, rule) ∷ faults

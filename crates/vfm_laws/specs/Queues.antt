@@ -37,7 +37,7 @@ AllOnce (r ∷ requests) = (is_outstanding r.number requests ≡ false) × AllOn
 abbrev pub IsGone : DeviceState → ℕ → Type 0
 IsGone device n = (n < device.accepted) × (is_listed n device.pending ≡ false)
 
--- A device before and after the effect of a request: what its doorbell was rung for is accepted behind the rest.
+-- A device before and after the effect of a request: what its doorbell was rung for is accepted after the rest.
 pub record IsGrown (D : Desc) (d : ℕ) (before after : DeviceState) : Type 0 where
   pub jobs : List ℕ
   pub pending : after.pending ≡ before.pending ++ numbered before.accepted jobs

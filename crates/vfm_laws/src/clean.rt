@@ -18,7 +18,7 @@ pub fn legal_is_clean()
     ensures { (D : Desc) → IsValid D → (past : List Entry) → IsLegal D past → IsClean D past }
 {}
 
-/// No request is delivered while its issuer is stopped, and none into the BAR of a stopped device.
+/// No request is delivered while its issuer is stopped, and none into the BARs of a stopped device.
 pub fn delivery_is_clean()
     ensures issuer { (D : Desc) → IsValid D → (past : List Entry) (d n : ℕ) → IsLegal D (Deliver d n ∷ past)
         → IsFalse (is_stopped (state_of d past)) }

@@ -29,7 +29,7 @@ pub fn undelivered_are_first()
         → job_or_zero n (device_after D d past).pending ≡ outstanding_job_or_zero n (outstanding_of D d past) }
 {}
 
-/// Each undelivered request is enabled in the plain machine: among the first `window` pending ones, behind no fence.
+/// Each undelivered request is enabled in the plain machine: among the first `window` pending ones, after no fence.
 pub fn undelivered_are_enabled()
     ensures { (D : Desc) (past : List Entry) (d : ℕ) → IsValid D → IsLegal D past → d < device_count D
         → (n : ℕ) → IsTrue (is_undelivered n (outstanding_of D d past)) → IsTrue (is_enabled D (machine_of D past) d n) }
@@ -43,7 +43,7 @@ pub fn outstanding_numbers_differ()
         → (n : ℕ) → IsTrue (is_outstanding n (outstanding_of D d past)) → n < (device_after D d past).accepted }
 {}
 
-/// At most `window` requests of a device are outstanding, and a fence only alone: none is outstanding behind one.
+/// At most `window` requests of a device are outstanding, and a fence only alone: none is outstanding after one.
 pub fn window_and_fences_hold()
     ensures window { (D : Desc) (past : List Entry) (d : ℕ) → IsValid D → IsLegal D past → d < device_count D
         → length (outstanding_of D d past) ≤ (shape_at D d).window }

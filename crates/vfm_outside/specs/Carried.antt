@@ -1,9 +1,9 @@
--- The links of the two ends, and what they tell.
+-- The links of the two ends, and what they report.
 use Rattle.std.specs.Prelude.{ℕ, Bool, List, Option, map}
 use Rattle.vfm_outside.specs.declared.wires.Ends.{Ends}
 use Rattle.vfm_outside.specs.Links.{Told, ToldEnds}
 
--- what a link tells, by the words of its type
+-- what a link reports, by the words of its type
 abbrev pub told_by : {L : Type 0} → (L → Bool) → (L → ℕ) → (L → ℕ) → (L → Option (List ℕ)) → (L → Option (List ℕ)) → L → Told
 told_by ended failed_out failed_in sent received link = record {
   ended = ended link;
@@ -13,7 +13,7 @@ told_by ended failed_out failed_in sent received link = record {
   received = received link;
 }
 
--- what the links of the two ends tell, each by this word
+-- what the links of the two ends report, each by this word
 abbrev pub ends_told : {L : Type 0} → (L → Told) → Ends L → ToldEnds
 ends_told told ends = record {
   source_control = told ends.source_control;

@@ -1,4 +1,4 @@
--- What links tell, one by one and all those of two ends.
+-- What links report, one by one and all those of two ends.
 use Rattle.std.specs.Prelude.{◌≡◌, ℕ, ◌+◌, ◌==◌, ◌&&◌, ◌||◌, nat_lt, Bool, false, Option, Result, Ok, Err, List, length, All, sum_by}
 use Rattle.vfm_outside.specs.Told.{TellsNone}
 
@@ -7,7 +7,7 @@ abbrev pub ended_after : {E : Type 0} → Result ℕ E → ℕ → Bool → Bool
 ended_after (Ok n) room before = before || (n == 0 && nat_lt 0 room)
 ended_after (Err e) room before = before
 
--- what one link tells
+-- what one link reports
 pub record Told : Type 0 where
   pub ended : Bool
   pub failed_out : ℕ
@@ -15,7 +15,7 @@ pub record Told : Type 0 where
   pub sent : Option (List ℕ)
   pub received : Option (List ℕ)
 
--- what the links of the two ends tell
+-- what the links of the two ends report
 pub record ToldEnds : Type 0 where
   pub source_control : Told
   pub source : List Told

@@ -1,11 +1,11 @@
--- The links in memory of the two ends, and what they tell.
+-- The links in memory of the two ends, and what they report.
 use Rattle.std.specs.Prelude.{ℕ, ◌+◌, Option, Some, None, take, vec_len}
 use Rattle.vfm_outside.specs.declared.script_link.ScriptLink.{ScriptLink}
 use Rattle.vfm_outside.specs.declared.wires.Ends.{Ends}
 use Rattle.vfm_outside.specs.Links.{Told, ToldEnds, AreNew, ends_faults}
 use Rattle.vfm_outside.specs.Carried.{ends_told}
 
--- what a link in memory tells
+-- what a link in memory reports
 abbrev pub script_told : ScriptLink → Told
 script_told link = record {
   ended = link.ended;
@@ -19,7 +19,7 @@ script_told link = record {
 abbrev pub script_faults : ScriptLink → ℕ
 script_faults link = link.failed_out + link.failed_in
 
--- what the links in memory of the two ends tell
+-- what the links in memory of the two ends report
 abbrev pub script_ends : Ends ScriptLink → ToldEnds
 script_ends ends = ends_told script_told ends
 

@@ -1,19 +1,19 @@
--- What the objects outside tell of themselves at one moment, so that a clause can speak of an object before and after
+-- What the objects outside report of themselves at one moment, so that a clause can speak of an object before and after
 -- a call by one name each.
 use Rattle.std.specs.Prelude.{ℕ, Option, List}
 use Rattle.vfm_outside.specs.Links.{ToldEnds}
 
--- a source: the bytes that are left in it, where it tells them, and how often it failed
+-- a source: the bytes that are left in it, where it reports them, and how often it failed
 pub record SourceTells : Type 0 where
   pub left : Option (List ℕ)
   pub faults : ℕ
 
--- a sink: the bytes that it holds, where it tells them, and how often it failed
+-- a sink: the bytes that it holds, where it reports them, and how often it failed
 pub record SinkTells : Type 0 where
   pub holds : Option (List ℕ)
   pub faults : ℕ
 
--- wires: how many channels were asked for, what the links told that came back last, and how often they failed
+-- wires: how many channels were asked for, what the links reported that came back last, and how often they failed
 pub record WiresTell : Type 0 where
   pub asked : Option (List ℕ)
   pub carried : Option ToldEnds

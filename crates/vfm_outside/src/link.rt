@@ -18,16 +18,16 @@ pub trait Link: Send {
     /// How often `recv` has failed.
     ghost failed_in: { Self → ℕ };
 
-    /// Whether the end of the channel has been received. Every link tells it.
+    /// Whether the end of the channel has been received. Every link reports it.
     ghost ended: { Self → Bool };
 
-    /// The bytes sent so far, where the link tells them.
+    /// The bytes sent so far, where the link reports them.
     ghost sent: { Self → Option (List ℕ) };
 
-    /// The bytes received so far, where the link tells them.
+    /// The bytes received so far, where the link reports them.
     ghost received: { Self → Option (List ℕ) };
 
-    /// Sends a front of the piece, and answers how many bytes of it: at least one, if the piece isn't empty. A link
+    /// Sends a prefix of the piece, and answers how many bytes of it: at least one, if the piece isn't empty. A link
     /// that sends none of a piece that isn't empty answers `Failed` and counts it. An empty piece changes nothing.
     fn send(&mut self, bytes: &[u8]) -> Result<usize, Failed>
         ensures count { CountsFaults result (failed_out self.old) (failed_out self.new) }
@@ -37,8 +37,8 @@ pub trait Link: Send {
         ensures received { received self.new ≡ received self.old }
         ensures ended { ended self.new ≡ ended self.old };
 
-    /// Receives bytes at the front of `buf`, and answers how many. With a buffer that isn't empty, 0 is the end of
-    /// the channel. What stands in `buf` behind them is left open, and after `Failed` all of it. An empty buffer
+    /// Receives bytes at the start of `buf`, and answers how many. With a buffer that isn't empty, 0 is the end of
+    /// the channel. What stands in `buf` after them is left open, and after `Failed` all of it. An empty buffer
     /// changes nothing.
     fn recv(&mut self, buf: &mut [u8]) -> Result<usize, Failed>
         ensures count { CountsFaults result (failed_in self.old) (failed_in self.new) }

@@ -11,7 +11,7 @@ use std::alloc::Global;
 use vfm_types::NoMemory;
 
 /// A sink into memory, which takes a bounded number of bytes in one write, fails at chosen writes, and fails where
-/// its room ends. It tells what it holds.
+/// its room ends. It reports what it holds.
 #[derive(Debug, Drop)]
 pub struct MemSink {
     held: Vec<u8>,

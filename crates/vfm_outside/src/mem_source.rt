@@ -9,7 +9,7 @@ use crate::script::{Script, give};
 use crate::{Failed, Source};
 
 /// A source over bytes in memory, which gives a bounded number of them in one read and fails at chosen reads. It
-/// tells what is left.
+/// reports what is left.
 #[derive(Debug, Drop)]
 pub struct MemSource {
     bytes: Vec<u8>,

@@ -12,7 +12,7 @@ use std::alloc::Global;
 use vfm_types::NoMemory;
 
 /// A link that receives an inbox fixed beforehand, stores what is sent, moves a bounded number of bytes in one call,
-/// fails at chosen calls, and fails to send where its room ends. It tells what it sent and received.
+/// fails at chosen calls, and fails to send where its room ends. It reports what it sent and received.
 #[derive(Debug, Drop)]
 pub struct ScriptLink {
     inbox: Vec<u8>,

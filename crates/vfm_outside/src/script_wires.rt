@@ -12,7 +12,7 @@ use crate::{ConnectFault, Ends, ScriptLink, Wires};
 use std::alloc::Global;
 
 /// Wires over links that were made beforehand: the first call that asks for as many channels as there are gets them,
-/// and every other call fails. They tell what was asked for.
+/// and every other call fails. They report what was asked for.
 #[derive(Debug, Drop)]
 pub struct ScriptWires {
     ends: Option<Ends<ScriptLink>>,

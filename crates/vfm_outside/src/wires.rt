@@ -34,12 +34,12 @@ pub trait Wires {
     /// How often `connect` has failed, and the faults of all the links that were taken back.
     ghost faults: { Self → ℕ };
 
-    /// The numbers of channels that were asked for, where the wires tell them. A call that ran out of memory isn't
+    /// The numbers of channels that were asked for, where the wires report them. A call that ran out of memory isn't
     /// among them.
     ghost asked: { Self → Option (List ℕ) };
 
-    /// What the links that were taken back last tell, if there were any. All wires tell it: of each link whether it
-    /// has ended and how often it failed, and what it sent and received where the link told that.
+    /// What the links that were taken back last report, if there were any. All wires report it: of each link whether it
+    /// has ended and how often it failed, and what it sent and received where the link reported that.
     ghost carried: { Self → Option ToldEnds };
 
     /// One control link and `channels` channels for each end, all of them new.

@@ -154,7 +154,7 @@ can_lose D m valid sound d within =
 
 -- ---- bells
 
--- bytes put behind the first 8 leave these
+-- bytes put after the first 8 leave these
 take8-splice : (old : List ℕ) (offset : ℕ) (bytes : List ℕ) → 8 ≤ offset → take 8 old ≡ replicate 8 0 → take 8 (splice old offset bytes) ≡ replicate 8 0
 take8-splice old offset bytes far zeros =
     let long : 8 ≤ length old = omega (arith, length-take 8 old, ap length zeros) in
@@ -176,7 +176,7 @@ bells-ring : (D : Desc) (m : Machine) (d number : ℕ) → HasZeroBells D m → 
 bells-ring D m d number bells =
     each_changed (λ e x. take 8 x.bar ≡ replicate 8 0) (λ e x. take 8 x.bar ≡ replicate 8 0) m d (with_bell_rung (shape_at D d) (device_of m d) number) (device_count D) (λ e x h. h) (λ h. rung_keeps (λ x. take 8 x.bar ≡ replicate 8 0) (shape_at D d) (device_of m d) number (λ there spare. h) h) bells
 
--- a write that spoils no doorbell rings it, or lies in memory, or behind it
+-- a write that spoils no doorbell rings it, or lies in memory, or after it
 not_spoiled : (bar low bell : Bool) → (bar && low && not bell) ≡ false → bell ≡ false → bar ≡ true → low ≡ false
 not_spoiled true true false e f g = absurd (cc)
 not_spoiled true true true e f g = absurd (cc)

@@ -1,4 +1,4 @@
--- Lists of requests: a queue numbered one more, and an item brought to the front.
+-- Lists of requests: a queue numbered one more, and an item brought to the first place.
 use Rattle.std.proofs.Common.{◌≡◌, ℕ, ◌+◌, ◌-◌, ◌<◌, ◌&&◌, Bool, true, false, Decides, eqb, eq-eqb, get_or, ap₂, List, [], ◌∷◌, ◌++◌, length, take, drop, remove, refl, sym, ap, ◌∙◌, add-one, append_assoc, arith}
 use Rattle.std.proofs.lemmas.Bool.{false≢true}
 use Rattle.std.proofs.lemmas.Bool.Decides.{Decides-eqb}

@@ -1,4 +1,4 @@
--- Clean runs: no request is delivered by a stopped device or into the BAR of one. No condition of a Deliver says so:
+-- Clean runs: no request is delivered by a stopped device or into the BARs of one. No condition of a Deliver says so:
 -- it is a law about legal runs.
 use Rattle.std.specs.Prelude.{◌&&◌, not, Bool, true, List, [], ◌∷◌, IsTrue}
 use Rattle.vfm_types.specs.declared.entry.Entry.{Entry}
@@ -11,7 +11,7 @@ use Rattle.vfm_types.specs.Requests.{job_of}
 use Rattle.vfm_types.specs.Deliveries.{machine_of}
 use Rattle.vfm_types.specs.Arcs.{state_of, is_stopped}
 
--- the region isn't the BAR of a stopped device
+-- the region isn't the BARs of a stopped device
 abbrev pub is_awake : Region → List Entry → Bool
 is_awake (Page p) past = true
 is_awake (Bar d) past = not (is_stopped (state_of d past))

@@ -9,7 +9,7 @@ use Rattle.vfm_types.specs.declared.desc.Desc.{Desc}
 use Rattle.vfm_types.specs.Desc.{shape_at, bar_bytes, device_count}
 use Rattle.vfm_types.specs.Machine.{DeviceState, Machine, device_of}
 
--- a device has the BAR and the buffer of its description, and each pending request is for a job that it has
+-- a device has the BAR bytes and the buffer of its description, and each pending request is for a job that it has
 pub record DeviceHasShape (shape : DevShape) (dev : DeviceState) : Type 0 where
   pub bar : length dev.bar ≡ bar_bytes shape
   pub buf : length dev.buf ≡ 64
@@ -53,7 +53,7 @@ HasCounts D m = (d : ℕ) → d < device_count D → DeviceHasCounts (shape_at D
 abbrev pub all_done : Machine → ℕ
 all_done m = sum_by (λ dev. dev.done) m.devices
 
--- bytes 0 to 7 of each BAR are zero
+-- bytes 0 to 7 of each device's BAR 0, the first of its BAR bytes, are zero
 abbrev pub HasZeroBells : Desc → Machine → Type 0
 HasZeroBells D m = (d : ℕ) → d < device_count D → take 8 (device_of m d).bar ≡ replicate 8 0
 

@@ -4,7 +4,7 @@ use Rattle.std.specs.List.{flat_map}
 use Rattle.vfm_types.specs.declared.state.MigState.{MigState}
 use Rattle.vfm_types.specs.declared.state.MigState.TheVariants.{Error, Stop, Running, StopCopy, Resuming, RunningP2p, PreCopy, PreCopyP2p}
 
--- a word and the words behind it as a line
+-- a word and the words after it as a line
 abbrev pub line : List ℕ → List (List ℕ) → List ℕ
 line first words = first ++ flat_map (λ word. 32 ∷ word) words ++ 10 ∷ []
 

@@ -116,7 +116,7 @@ impl PlainDevice {
         self.bar.put(offset, bytes);
     }
 
-    /// Puts these bytes at the front of the buffer.
+    /// Puts these bytes at the start of the buffer.
     pub fn put_front(&mut self, bytes: &[u8])
         requires { length bytes.now ≤ 64 }
         ensures { self.new ≡ record self.old { buf = splice self.old.buf 0 bytes.now } }

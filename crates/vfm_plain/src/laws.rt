@@ -33,7 +33,7 @@ pub fn sound_machines_can_lose()
     ensures { (D : Desc) (m : Machine) → IsValid D → IsSound D m → CanLose D m }
 {}
 
-/// Bytes 0 to 7 of each BAR are zero, whatever requests are done.
+/// Bytes 0 to 7 of each device's BAR 0 are zero, whatever requests are done.
 pub fn bells_stay_zero()
     ensures { (D : Desc) (requests : List (ℕ × ℕ)) (m : Machine) (d : ℕ) →
         IsValid D → plain D requests ≡ Some m → d < device_count D → take 8 (device_of m d).bar ≡ replicate 8 0 }

@@ -216,7 +216,7 @@ impl Plain {
         device.ring(desc.devices.at(d.0 as u32), number);
     }
 
-    // reads bytes at a place into the front of the device's buffer
+    // reads bytes at a place into the start of the device's buffer
     fn read_at(&mut self, d: DeviceId, place: &Place, len: u8)
         requires device { d < length self.old.devices }
         requires region { HasRegion self.old place.now.region }
@@ -228,7 +228,7 @@ impl Plain {
         self.put_front(d, &held[..len as usize]);
     }
 
-    // stores the front of the device's buffer at a place
+    // stores the start of the device's buffer at a place
     fn store_at(&mut self, desc: &Desc, d: DeviceId, place: &Place, len: u8)
         requires valid { IsValid desc.now }
         requires device { d < device_count desc.now }
@@ -242,7 +242,7 @@ impl Plain {
         self.write_at(desc, place, &held[..len as usize]);
     }
 
-    // adds a value to the 8 bytes at a place, and puts the old ones at the front of the device's buffer
+    // adds a value to the 8 bytes at a place, and puts the old ones at the start of the device's buffer
     fn add_at(&mut self, d: DeviceId, place: &Place, value: u64)
         requires device { d < length self.old.devices }
         requires region { HasRegion self.old place.now.region }
@@ -298,7 +298,7 @@ impl Plain {
         }
     }
 
-    // puts bytes at the front of the device's buffer
+    // puts bytes at the start of the device's buffer
     fn put_front(&mut self, d: DeviceId, bytes: &[u8])
         requires device { d < length self.old.devices }
         requires few { length bytes.now ≤ 64 }

@@ -433,3 +433,43 @@ fn an_add_wraps(rt: HostRuntime) -> Result<(), Fail> {
     assert_eq!(rt; &plain.buf(DeviceId(0))[..9], old.as_slice());
     Ok(())
 }
+
+// the bytes of BARs of 128 and of 64 bytes, with byte 0 of BAR 1 and its bytes 8 to 15 written
+fn two_writes() -> [u8; 192] {
+    let mut bytes = [0; 192];
+    bytes[128] = 255;
+    for k in 1..9u8 {
+        bytes[135 + k as usize] = k;
+    }
+    bytes
+}
+
+#[test]
+fn bytes_of_bar_1_are_no_doorbell(rt: HostRuntime) -> Result<(), Fail> {
+    let alloc = rt.alloc();
+    let mut first = device(&rt, alloc, b"a", (128, 1, 1), &[(3, 0, 8, 1)], &[])?;
+    first.bars = Bars::of(&[128, 64]).ok_or("no bars")?;
+    let rows = [
+        (0, 268500992, 1, 255),
+        (4, 268501000, 8, 0x0807_0605_0403_0201),
+        (4, 268500992, 8, 0),
+        (4, 268435456, 8, 0),
+    ];
+    let mut devices = Vec::new(alloc);
+    devices.push(first)?;
+    devices.push(device(&rt, alloc, b"b", (64, 1, 4), &rows, &[0, 1, 2, 3])?)?;
+    let desc = machine(&rt, devices)?;
+    let mut plain = played(&rt, alloc, &desc, &[(1, 0, true), (1, 1, true)])?;
+    assert_eq!(rt; desc.devices.len(), 2);
+    let mut bytes = two_writes();
+    assert_eq!(rt; plain.bar(DeviceId(0)), bytes.as_slice());
+    play(&rt, &desc, &mut plain, &[(1, 2, true)]);
+    bytes[128] = 0;
+    assert_eq!(rt; plain.bar(DeviceId(0)), bytes.as_slice());
+    assert_eq!(rt; plain.counts(DeviceId(0)), (0, 0, 0));
+    play(&rt, &desc, &mut plain, &[(1, 3, true)]);
+    assert_eq!(rt; plain.bar(DeviceId(0)), bytes.as_slice());
+    assert_eq!(rt; plain.counts(DeviceId(0)), (1, 0, 0));
+    assert_eq!(rt; plain.pending(DeviceId(0)), [(0, 0)].as_slice());
+    Ok(())
+}

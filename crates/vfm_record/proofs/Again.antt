@@ -1,4 +1,4 @@
--- What is spelled is read again.
+-- What is encoded is read again.
 use Rattle.std.proofs.Common.{◌≡◌, ℕ, ◌+◌, ◌^◌, ◌<◌, ◌≤◌, ◌≢◌, Bool, true, false, List, [], ◌∷◌, length, get_or, take, Option, Some, None, refl, sym, ap, ◌∙◌, inl, inr, subst, arith}
 use Rattle.std.specs.Prelude.{◌==◌, ◌||◌, not, if◌then◌else◌}
 use Rattle.std.specs.List.{flat_map, AllByRecursion}
@@ -51,7 +51,7 @@ count_number : (pairs : List (ℕ × ℕ)) → length pairs < 2 ^ 16 → word_at
 unfolding word_at
 count_number pairs lt = from_be_bytes-to_be_bytes_2 (length pairs) lt
 
--- ---- what is said by a spelling
+-- ---- what is said by an encoding
 
 pub page_again : (p : ℕ) (bytes : List ℕ) → p < 2 ^ 32 → record_with tags.Page (record_bytes (Page p bytes)) ≡ Page p bytes
 page_again p bytes lt = ap (λ (n : ℕ). Page n bytes) (page_number p bytes lt)
@@ -72,7 +72,7 @@ pending_again pairs fits =
     ap (λ (n : ℕ). Pending (pairs_of n (flat_map pair_bytes pairs))) (count_number pairs fits.0)
     ∙ ap Pending (pairs_again pairs fits.1)
 
--- ---- the tests of a spelling
+-- ---- the tests of an encoding
 
 page_passes : (D : Desc) (p : ℕ) (bytes : List ℕ) → p < 2 ^ 32 → p < D.pages → length bytes ≡ D.page
     → first_failed (page_tests D (record_bytes (Page p bytes))) ≡ None
@@ -188,9 +188,9 @@ again D stream (Pending pairs) is =
 again D stream (Config digest) is =
     read_with D stream (Config digest) (Some tags.Config) refl (config_passes digest is.of, refl)
 
--- ---- one spelling
+-- ---- one encoding
 
--- what a spelling says, whatever the stream
+-- what an encoding says, whatever the stream
 abbrev said : List ℕ → Record
 said bytes = record_after (if get_or bytes 0 0 == 1 then Some tags.Page else tag_of 1 (get_or bytes 0 0)) bytes
 

@@ -1,4 +1,4 @@
--- Bytes that pass the tests spell a record of the stream.
+-- Bytes that pass the tests encode a record of the stream.
 use Rattle.std.proofs.Common.{◌≡◌, ℕ, ◌*◌, ◌<◌, ◌≤◌, Bool, true, false, cond, List, [], ◌∷◌, ◌++◌, length, get_or, take, drop, Option, Some, None, refl, sym, ap, ◌∙◌, inl, inr, arith}
 use Rattle.std.specs.Prelude.{◌==◌, ◌||◌, not, nat_le}
 use Rattle.std.specs.List.{AllByRecursion}
@@ -145,7 +145,7 @@ bell_kept bytes long fits kept is_first =
     let word = word_64 5 bytes (omega arith) fits in
     sym word.0 ∙ ap (to_be_bytes w64) zero_word
 
--- a record of the stream, which the bytes spell
+-- a record of the stream, which the bytes encode
 abbrev pub IsEncoding : Desc → ℕ → List ℕ → Record → Type 0
 IsEncoding D stream bytes r = IsRecordOf D stream r × (bytes ≡ record_bytes r)
 
@@ -226,7 +226,7 @@ after_found D stream bytes fits (Some tags.Engine) facts none = engine_found D s
 after_found D stream bytes fits (Some tags.Pending) facts none = pending_found D stream bytes fits facts.0 facts.1 none
 after_found D stream bytes fits (Some tags.Config) facts none = config_found D stream bytes facts none
 
--- bytes that pass the tests spell the record that is read
+-- bytes that pass the tests encode the record that is read
 pub found : (D : Desc) (stream : ℕ) (bytes : List ℕ) → IsBytes bytes → record_fault D stream bytes ≡ None
     → IsEncoding D stream bytes (record_at stream bytes)
 unfolding record_fault

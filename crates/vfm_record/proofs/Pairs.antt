@@ -14,7 +14,7 @@ unfolding pairs_of
 length-pairs_of zero bytes = refl
 length-pairs_of (suc n) bytes = ap (λ k. suc k) (length-pairs_of n (drop 8 bytes))
 
--- the first pair spells the first eight bytes
+-- the first pair encodes the first eight bytes
 pair_encoded : (bytes : List ℕ) → 8 ≤ length bytes → IsBytes bytes
     → pair_bytes (word_at w32 0 bytes, word_at w32 4 bytes) ≡ take 8 bytes
 pair_encoded bytes long fits =
@@ -44,7 +44,7 @@ pairs_fit (suc n) bytes len fits =
     let job = word_32 4 bytes (omega arith) fits in
     ((number.1, job.1), pairs_fit n (drop 8 bytes) rest (IsBytes-drop 8 bytes fits))
 
--- a count and the bytes behind it spell as many pairs
+-- a count and the bytes after it encode as many pairs
 pub pending_encoded : (count : ℕ) (bytes : List ℕ) → length bytes ≡ 8 * count → IsBytes bytes
     → (4 ∷ to_be_bytes w16 count) ++ bytes ≡ record_bytes (Pending (pairs_of count bytes))
 pending_encoded count bytes len fits =
@@ -53,7 +53,7 @@ pending_encoded count bytes len fits =
     ∙ ap (λ (l : List ℕ). (4 ∷ to_be_bytes w16 count) ++ l) (pairs_encoded count bytes len fits)
     )
 
--- what is spelled is read
+-- what is encoded is read
 pub pairs_again : (pairs : List (ℕ × ℕ)) → AllByRecursion FitsPair pairs → pairs_of (length pairs) (flat_map pair_bytes pairs) ≡ pairs
 unfolding pairs_of word_at
 pairs_again [] fits = refl
@@ -80,6 +80,6 @@ pub pairs_len : (pairs : List (ℕ × ℕ)) → length (flat_map pair_bytes pair
 pairs_len [] = refl
 pairs_len (pair ∷ pairs) = omega (arith, pairs_len pairs)
 
--- as many bytes behind the count
+-- as many bytes after the count
 pub pending_len : (count : ℕ) (bytes : List ℕ) → length bytes ≡ 8 * count → length (record_bytes (Pending (pairs_of count bytes))) ≡ 3 + length bytes
 pending_len count bytes len = omega (arith, len, pairs_len (pairs_of count bytes), length-pairs_of count bytes)

@@ -23,7 +23,7 @@ piece_len n place bytes h = omega (arith, length-take n (drop place bytes), leng
 pub IsBytes-piece : (n place : ℕ) (bytes : List ℕ) → IsBytes bytes → IsBytes (take n (drop place bytes))
 IsBytes-piece n place bytes h = IsBytes-take n (drop place bytes) (IsBytes-drop place bytes h)
 
--- ---- the number that stands at a place fits, and spells the bytes that stand there
+-- ---- the number that stands at a place fits, and encodes the bytes that stand there
 
 pub word_16 : (place : ℕ) (bytes : List ℕ) → place + 2 ≤ length bytes → IsBytes bytes
     → (to_be_bytes w16 (word_at w16 place bytes) ≡ take 2 (drop place bytes)) × (word_at w16 place bytes < 2 ^ 16)
@@ -51,7 +51,7 @@ word_64 place bytes h fits =
       omega (arith, each 0, each 1, each 2, each 3, each 4, each 5, each 6, each 7),
     )
 
--- a number behind some bytes
+-- a number after some bytes
 pub word-drop : (w : Width) (place n : ℕ) (bytes : List ℕ) → word_at w place (drop n bytes) ≡ word_at w (n + place) bytes
 unfolding word_at
 word-drop w place n bytes = ap (λ (l : List ℕ). from_be_bytes w (take (byte_len w) l)) (drop-drop place n bytes)

@@ -1,4 +1,4 @@
--- Records: what they say, their one spelling, and which of them a stream of a machine can have.
+-- Records: what they say, their one encoding, and which of them a stream of a machine can have.
 use Rattle.std.specs.Prelude.{◌≡◌, ℕ, zero, suc, ◌+◌, ◌*◌, ◌-◌, ◌^◌, ◌<◌, ◌≤◌, List, [], ◌∷◌, ◌++◌, length, take, drop}
 use Rattle.std.specs.List.{flat_map, AllByRecursion}
 use Rattle.std.specs.Int.{w16, w32, to_be_bytes}
@@ -14,7 +14,7 @@ use Rattle.vfm_base.specs.Words.{word_at}
 pub data Record : Type 0 where
   -- a page of memory and its bytes
   Page : ℕ → List ℕ → Record
-  -- a block of the device's BAR and its 64 bytes
+  -- a block of the device's BARs and its 64 bytes
   Block : ℕ → List ℕ → Record
   -- how many requests the device accepted, did, lost and has pending, and its buffer
   Engine : ℕ → ℕ → ℕ → ℕ → List ℕ → Record
@@ -27,7 +27,7 @@ pub data Record : Type 0 where
 abbrev pub pair_bytes : ℕ × ℕ → List ℕ
 pair_bytes pair = to_be_bytes w32 pair.0 ++ to_be_bytes w32 pair.1
 
--- the bytes of a record: its tag and what stands behind, each number with its highest byte first
+-- the bytes of a record: its tag and what stands after, each number with its highest byte first
 abbrev pub record_bytes : Record → List ℕ
 record_bytes (Page p bytes) = 1 ∷ (to_be_bytes w32 p ++ bytes)
 record_bytes (Block b bytes) = 2 ∷ (to_be_bytes w32 b ++ bytes)

@@ -10,11 +10,11 @@ use Rattle.vfm_types.specs.declared.desc.DevShape.{DevShape}
 use Rattle.vfm_types.specs.declared.desc.Desc.{Desc}
 use Rattle.vfm_types.specs.Desc.{shape_at}
 
--- a word behind another
+-- a word after another
 abbrev pub word : List ℕ → List ℕ
 word text = 32 ∷ text
 
--- a number behind a word
+-- a number after a word
 abbrev pub number : ℕ → List ℕ
 number n = word (decimal n)
 

@@ -21,7 +21,7 @@ tag_of stream number =
     (if number == 3 then Some tags.Engine else
     (if number == 4 then Some tags.Pending else None))))
 
--- the tag at the front of the bytes; no bytes have none
+-- the tag at the start of the bytes; no bytes have none
 abbrev pub tag_at : ℕ → List ℕ → Option Tag
 tag_at stream bytes = tag_of stream (slice_index bytes 0)
 
@@ -84,7 +84,7 @@ pending_tests bytes =
 unfoldable pub config_tests : List ℕ → List Test
 config_tests bytes = (length bytes == 33, length bytes) ∷ []
 
--- the tests behind the tag, in their order
+-- the tests after the tag, in their order
 abbrev pub tests_of : Desc → ℕ → Tag → List ℕ → List Test
 tests_of D stream tags.Page bytes = page_tests D bytes
 tests_of D stream tags.Block bytes = block_tests (shape_of_stream D stream) bytes
@@ -92,12 +92,12 @@ tests_of D stream tags.Engine bytes = engine_tests (shape_of_stream D stream) by
 tests_of D stream tags.Pending bytes = pending_tests bytes
 tests_of D stream tags.Config bytes = config_tests bytes
 
--- the tests behind the tag, if there is one
+-- the tests after the tag, if there is one
 abbrev pub fault_after : Desc → ℕ → Option Tag → List ℕ → Option ℕ
 fault_after D stream None bytes = Some 0
 fault_after D stream (Some tag) bytes = first_failed (tests_of D stream tag bytes)
 
--- the place of the first test that fails: that of the tag, place 0, then those behind it
+-- the place of the first test that fails: that of the tag, place 0, then those after it
 unfoldable pub record_fault : Desc → ℕ → List ℕ → Option ℕ
 record_fault D stream bytes = fault_after D stream (tag_at stream bytes) bytes
 

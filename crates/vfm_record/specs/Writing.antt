@@ -6,7 +6,7 @@ use Rattle.vfm_record.specs.declared.record.Rec.TheVariants as lent
 use Rattle.vfm_base.specs.Words.{IsBytes}
 use Rattle.vfm_record.specs.Record.{KeepsBell, most_lost}
 
--- The record has a spelling: it is one of some stream of some machine.
+-- The record has an encoding: it is one of some stream of some machine.
 abbrev pub IsWritable : Rec → Type 0
 IsWritable (lent.Page p bytes) = (p < 1024) × IsTrue (is_page_size (length bytes.now))
 IsWritable (lent.Block b bytes) = (b < 1024) × (length bytes.now ≡ 64) × KeepsBell b bytes.now

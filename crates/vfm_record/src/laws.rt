@@ -10,7 +10,7 @@ ghost use Rattle.vfm_record.specs.Record.{Record, record_bytes, record_size, Fit
 ghost use Rattle.vfm_record.specs.Tests.{record_fault, record_at};
 ghost use Rattle.vfm_record.specs.Writing.{IsWritable, LendsBytes};
 
-/// No two records have one spelling.
+/// No two records have one encoding.
 pub fn one_encoding()
     ensures { (r s : Record) → Fits r → Fits s → record_bytes r ≡ record_bytes s → r ≡ s }
 {}

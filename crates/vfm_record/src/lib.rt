@@ -1,7 +1,7 @@
-//! The records that carry a machine's state in the payloads of packets: how each is spelled, which bytes are refused and
+//! The records that carry a machine's state in the payloads of packets: how each is encoded, which bytes are refused and
 //! at which place, and the digest by which both ends of a move find out whether they have the same machine.
 //!
-//! The format stands in `specs/`: `Record` has the records, their spelling and which of them a stream can have, `Tests`
+//! The format stands in `specs/`: `Record` has the records, their encoding and which of them a stream can have, `Tests`
 //! the tests of some bytes in their order and what bytes say that pass them, `Writing` which records can be written, and
 //! `Shape` the text that the digest is of. The laws that join them are the functions of `laws.rt`. Only writing takes
 //! memory.

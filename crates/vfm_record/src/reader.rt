@@ -156,7 +156,7 @@ fn read_config<'a>(bytes: &'a [u8]) -> Result<Rec<'a>, RecordFault>
     })
 }
 
-// The tag at the front.
+// The tag, which comes first.
 fn tag_at(stream: u32, bytes: &[u8]) -> Option<Tag>
     ensures { result ≡ tag_at stream bytes.now }
 {
@@ -183,7 +183,7 @@ fn tested<'a>(desc: &Desc, stream: u32, bytes: &'a [u8]) -> Result<Rec<'a>, Reco
     }
 }
 
-/// The record of the stream that the bytes of a payload spell, or the place of the first test that fails: a tag of the
+/// The record of the stream that the bytes of a payload encode, or the place of the first test that fails: a tag of the
 /// stream, for pending requests a count of 1 to 4,096, the length, a page or block that there is, zeros for the doorbell,
 /// the counts of an engine. Stream 0 is memory, stream `d + 1` is device `d`. No memory is taken.
 pub fn read<'a>(desc: &Desc, stream: u32, bytes: &'a [u8]) -> Result<Rec<'a>, RecordFault>
@@ -193,10 +193,10 @@ pub fn read<'a>(desc: &Desc, stream: u32, bytes: &'a [u8]) -> Result<Rec<'a>, Re
     ensures fault { MatchResult result
         (λ _. record_fault desc.now stream bytes.now ≡ None)
         (λ fault. record_fault desc.now stream bytes.now ≡ Some fault.place) }
-    // What is given is a record of the stream, and the bytes are its spelling.
+    // What is given is a record of the stream, and the bytes are its encoding.
     ensures found { IfOk result (λ r. IsRecordOf desc.now stream (record_of r) × (bytes.now ≡ record_bytes (record_of r))) }
     ensures whole { IfOk result IsWhole }
-    // What is spelled so is given.
+    // What is encoded so is given.
     ensures only { (r : Record) → IsRecordOf desc.now stream r → bytes.now ≡ record_bytes r
         → IsOk result × IfOk result (λ given. record_of given ≡ r) }
 {

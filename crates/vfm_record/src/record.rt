@@ -8,7 +8,7 @@ pub enum Rec<'a> {
         p: u32,
         bytes: &'a [u8],
     },
-    /// Block `b` of the device's BAR: 64 bytes.
+    /// Block `b` of the device's BARs: 64 bytes.
     Block {
         b: u32,
         bytes: &'a [u8],

@@ -18,7 +18,7 @@ fn put(hasher: &mut Sha256, text: &[u8])
     hasher.update(text);
 }
 
-// Takes in a word behind another.
+// Takes in a word after another.
 fn put_word(hasher: &mut Sha256, text: &[u8])
     ensures { TookIn hasher.old hasher.new (word text.now) }
 {
@@ -26,7 +26,7 @@ fn put_word(hasher: &mut Sha256, text: &[u8])
     put(hasher, text);
 }
 
-// Takes in a number behind a word.
+// Takes in a number after a word.
 fn put_number(hasher: &mut Sha256, n: u64)
     ensures { TookIn hasher.old hasher.new (number n) }
 {
@@ -34,7 +34,7 @@ fn put_number(hasher: &mut Sha256, n: u64)
     put_word(hasher, digits.format(n).as_bytes());
 }
 
-// Takes in bytes as hex digits behind a word.
+// Takes in bytes as hex digits after a word.
 fn put_hex(hasher: &mut Sha256, bytes: &[u8])
     requires { length bytes.now ≤ 64 }
     ensures { TookIn hasher.old hasher.new (word (encode_lower bytes.now)) }

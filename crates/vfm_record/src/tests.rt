@@ -7,7 +7,7 @@ ghost use Rattle.vfm_types.specs.Desc.{device_count};
 use super::*;
 use std::alloc::Global;
 use std::test::Fail;
-use vfm_types::{Bytes64, Desc, DevShape, Flags, Job, Jobs, Name, NoMemory, Queue, Shapes};
+use vfm_types::{Bars, Bytes64, Desc, DevShape, Flags, Job, Jobs, Name, NoMemory, Queue, Shapes};
 
 // One machine with this device.
 fn machine(alloc: Global, page: u32, pages: u32, shape: DevShape) -> Result<Desc, NoMemory>
@@ -32,7 +32,7 @@ fn small(alloc: Global) -> Result<DevShape, Fail> {
     Ok(DevShape {
         name: Name::of(b"a").ok_or("name")?,
         flags: Flags::of(1).ok_or("flags")?,
-        bar: 128,
+        bars: Bars::of(&[128]).ok_or("bars")?,
         window: 1,
         tells: true,
         budget: 5,
@@ -50,7 +50,7 @@ fn worked(alloc: Global) -> Result<DevShape, Fail> {
     Ok(DevShape {
         name: Name::of(b"a").ok_or("name")?,
         flags: Flags::of(1).ok_or("flags")?,
-        bar: 64,
+        bars: Bars::of(&[64]).ok_or("bars")?,
         window: 1,
         tells: true,
         budget: 1,
@@ -78,7 +78,7 @@ fn large(alloc: Global) -> Result<DevShape, Fail> {
     Ok(DevShape {
         name: Name::of(b"gpu_0").ok_or("name")?,
         flags: Flags::of(7).ok_or("flags")?,
-        bar: 65_536,
+        bars: Bars::of(&[65_536]).ok_or("bars")?,
         window: 8,
         tells: false,
         budget: 50_000,
@@ -116,7 +116,7 @@ static CONFIG: [u8; 33] = [
     7,
 ];
 
-// The bytes in front of 96, the rest zero, with two places changed.
+// These bytes and zeros after them, 96 in all, with two places changed.
 fn changed(bytes: &[u8], first: (usize, u8), second: (usize, u8)) -> [u8; 96] {
     let mut copy = [0; 96];
     for (to, from) in copy.iter_mut().zip(bytes) {
@@ -185,7 +185,7 @@ fn places_of_wrong_pages_and_digests(rt: HostRuntime) -> Result<(), Fail> {
         (20, none, Some(20)),
         (22, none, Some(22)),
         (5, none, Some(5)),
-        // page 0, and the pages behind the last one
+        // page 0, and the pages after the last one
         (21, (4, 0), None),
         (21, (4, 2), Some(1)),
         (21, (1, 1), Some(1)),
@@ -219,11 +219,11 @@ fn places_of_wrong_blocks(rt: HostRuntime) -> Result<(), Fail> {
         (69, none, none, None),
         (68, none, none, Some(68)),
         (70, none, none, Some(70)),
-        // the block behind the last one
+        // the block after the last one
         (69, (4, 1), none, None),
         (69, (4, 2), none, Some(1)),
         (69, (3, 1), none, Some(1)),
-        // the doorbell: the first and the last of eight bytes, and the one behind
+        // the doorbell: the first and the last of eight bytes, and the one after
         (69, (5, 1), none, Some(5)),
         (69, (12, 1), none, Some(5)),
         (69, (13, 1), none, None),
@@ -412,6 +412,25 @@ fn worked_digests(rt: HostRuntime) -> Result<(), Fail> {
         0xb9, 0xe5,
     ];
     assert_eq!(rt; shape_digest(&other, 1), want);
+    Ok(())
+}
+
+#[test]
+fn several_bars_are_one_word_and_one_range_of_blocks(rt: HostRuntime) -> Result<(), Fail> {
+    let mut shape = small(rt.alloc())?;
+    shape.bars = Bars::of(&[128, 64]).ok_or("bars")?;
+    let desc = machine(rt.alloc(), 16, 1, shape)?;
+    // device a 1 128+64 1 1 5 0
+    let want: [u8; 32] = [
+        0x81, 0x63, 0x70, 0xf6, 0x6f, 0x7c, 0x1a, 0x6e, 0x26, 0xff, 0xe3, 0x24, 0x9a, 0x16, 0x24,
+        0x90, 0xf6, 0xec, 0x8d, 0x96, 0x55, 0x39, 0x24, 0x0f, 0xd0, 0x5d, 0x77, 0x86, 0xb6, 0x0b,
+        0xc9, 0xcb,
+    ];
+    assert_eq!(rt; shape_digest(&desc, 1), want);
+    let last = changed(&BLOCK, (4, 2), (5, 0));
+    assert_eq!(rt; place(&desc, 1, &last, 69), None);
+    let beyond = changed(&BLOCK, (4, 3), (5, 0));
+    assert_eq!(rt; place(&desc, 1, &beyond, 69), Some(1));
     Ok(())
 }
 

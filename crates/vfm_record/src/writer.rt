@@ -54,8 +54,8 @@ fn engine_head(accepted: u32, done: u32, lost: u32, pend: u32) -> [u8; 17]
     ]
 }
 
-/// Appends the one spelling of a record. After want of memory nothing is appended; there is none where the room of `out`
-/// is enough for the spelling.
+/// Appends the one encoding of a record. Where memory runs out nothing is appended; it does not where the room of `out`
+/// is enough for the encoding.
 pub fn write(r: &Rec, out: &mut Vec<u8>) -> Result<(), NoMemory>
     requires { IsWritable r.now }
     ensures ok { OnOk result (out.new.items ≡ out.old.items ++ record_bytes (record_of r.now)) }
@@ -77,7 +77,7 @@ pub fn write(r: &Rec, out: &mut Vec<u8>) -> Result<(), NoMemory>
     }
 }
 
-/// How many bytes the spelling of a record has: what `write` appends.
+/// How many bytes the encoding of a record has: what `write` appends.
 pub fn encoded_len(r: &Rec) -> u32
     requires { IsWritable r.now }
     ensures value { result ≡ length (record_bytes (record_of r.now)) }
@@ -124,7 +124,7 @@ fn fill_pairs(out: &mut Vec<u8>, pairs: &[(u32, u32)])
 }
 
 /// Appends the record of these pending requests, each with its number and the number of its job, 1 to 4,096 of them:
-/// what `write` appends for their bytes. After want of memory nothing is appended.
+/// what `write` appends for their bytes. Where memory runs out nothing is appended.
 #[tactic(auto, using(crate::proofs::Pairs::pairs_len))]
 pub fn write_pending(pairs: &[(u32, u32)], out: &mut Vec<u8>) -> Result<(), NoMemory>
     requires some { 1 ≤ length pairs.now }

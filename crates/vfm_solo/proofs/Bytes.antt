@@ -1,4 +1,4 @@
--- Pages, blocks and requests as bytes: one more of them, and what stands in front.
+-- Pages, blocks and requests as bytes: one more of them, and what comes first.
 use Rattle.std.proofs.Common.{◌≡◌, ℕ, zero, suc, ◌+◌, ◌*◌, ◌/◌, ◌%◌, ◌<◌, ◌≤◌, ◌&&◌, ◌==◌, nat_le, IsTrue, List, [], ◌∷◌, ◌++◌, length, take, drop, slice_index_or, refl, sym, ap, ◌∙◌, arith, append-nil, append_assoc, length-append, drop-cons, take_at, drop_at}
 use Rattle.std.proofs.lemmas.Bool.{eqb-true}
 use Rattle.std.proofs.lemmas.List.Elements.{All-get_or, All-head, All-tail}
@@ -28,7 +28,7 @@ length-flat size (page ∷ pages) sized =
     let rest = length-flat size pages (All-tail (λ (page : List ℕ). length page ≡ size) page pages sized) in
     grind (arith, here, rest, length-append page (flat pages))
 
--- the page in front, and what stands behind it
+-- the first page, and what comes after it
 pub front_page : (size : ℕ) (pages : List (List ℕ)) (p : ℕ) (rest : List ℕ) → p < length pages → AllSized size pages
     → (take size (flat (drop p pages) ++ rest) ≡ slice_index_or pages p []) × (drop size (flat (drop p pages) ++ rest) ≡ flat (drop (suc p) pages) ++ rest)
 front_page size pages p rest h sized =

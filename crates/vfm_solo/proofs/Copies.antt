@@ -282,7 +282,7 @@ block_in_pass D past e f b solo within i plain flight =
       still = i.still ∙ sym plain;
     }
 
--- the pass begins right behind the Joint
+-- the pass begins right after the Joint
 pub pass_begins : (D : Desc) (past : List Entry) (e f g : Engine) → IsSolo D → Follows D past readable e → Unpassed D past
     → f.plain ≡ e.plain → f.flight ≡ e.flight → g.plain ≡ f.plain → g.flight ≡ f.flight → InPass D (Pass 1 ∷ Joint ∷ past) 0 0 g
 pass_begins D past e f g solo h u plain flight later_plain later_flight =

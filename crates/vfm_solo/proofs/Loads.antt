@@ -19,7 +19,7 @@ pub page_ahead : (page n len : ℕ) → 0 < n → page * n ≤ len → page ≤ 
 page_ahead page zero len h e = absurd (omega arith)
 page_ahead page (suc n) len h e = omega (arith, mul-suc page n)
 
--- and behind it the others
+-- and after it the others
 pub pages_behind : (page n len rest : ℕ) → 0 < n → page * n ≤ len → rest + page ≡ len → page * (n - 1) ≤ rest
 pages_behind page zero len rest h e is = absurd (omega arith)
 pages_behind page (suc n) len rest h e is =
@@ -53,7 +53,7 @@ grown x r = record x { pending = x.pending ++ r ∷ []; accepted = x.accepted + 
 abbrev pub grown_by : DeviceState → List (ℕ × ℕ) → ℕ → DeviceState
 grown_by x requests count = record x { pending = x.pending ++ requests; accepted = x.accepted + count }
 
--- one request more behind some
+-- one request more after some
 pub grown_more : (x : DeviceState) (requests : List (ℕ × ℕ)) (i : ℕ) → i < length requests → grown (grown_by x (take i requests) i) (slice_index_or requests i (0, 0)) ≡ grown_by x (take (i + 1) requests) (i + 1)
 grown_more x requests i h =
     let r = slice_index_or requests i (0, 0) in
@@ -75,7 +75,7 @@ pending_step m requests i plain after r inside h is_plain is_request is_after =
     ∙ set_again m (grown_by (device_of m 0) (take i requests) i) (λ (y : DeviceState). grown y request) inside
     ∙ ap (λ (y : DeviceState). with_device m 0 y) (grown_more (device_of m 0) requests i h)
 
--- the bytes behind a number
+-- the bytes after a number
 pub behind : (n : ℕ) (tail bytes rest : List ℕ) → bytes ≡ number_bytes n ++ tail → rest ≡ drop 4 bytes → rest ≡ tail
 behind n tail bytes rest is is_rest = is_rest ∙ ap (drop 4) is ∙ drop_at (number_bytes n) tail 4 (length-number n)
 
@@ -130,7 +130,7 @@ length-handed device bytes handed =
       length-pending device.pending,
     )
 
--- what stands in front at each number of a device
+-- what comes first at each number of a device
 pub record Heads (device : DeviceState) (r0 r1 r2 r3 r4 : List ℕ) : Type 0 where
   pub done : r1 ≡ number_bytes device.done ++ (number_bytes device.lost ++ (number_bytes (length device.pending) ++ pending_bytes device.pending))
   pub lost : r2 ≡ number_bytes device.lost ++ (number_bytes (length device.pending) ++ pending_bytes device.pending)
@@ -150,7 +150,7 @@ heads device bytes r0 r1 r2 r3 r4 handed e0 e1 e2 e3 e4 =
     let is3 : r3 ≡ e = behind device.lost e r2 r3 is2 e3 in
     record { done = is1; lost = is2; count = is3; pending = behind (length device.pending) f r3 r4 is3 e4 }
 
--- the buffer in front
+-- the buffer, which comes first
 pub handed_buf : (device : DeviceState) (bytes buf : List ℕ) → IsHanded device bytes → buf ≡ take 64 bytes → buf ≡ device.buf
 handed_buf device bytes buf handed is =
     is ∙ ap (take 64) handed.same ∙ take_at device.buf (number_bytes device.accepted ++ (number_bytes device.done ++ (number_bytes device.lost ++ (number_bytes (length device.pending) ++ pending_bytes device.pending)))) 64 handed.buf

@@ -17,13 +17,13 @@ abbrev pub pending_bytes : List (ℕ × ℕ) → List ℕ
 pending_bytes [] = []
 pending_bytes (request ∷ requests) = number_bytes request.0 ++ (number_bytes request.1 ++ pending_bytes requests)
 
--- a device without its BAR: its buffer, its counts, how many requests are pending, and these
+-- a device without its BARs: its buffer, its counts, how many requests are pending, and these
 abbrev pub device_bytes : DeviceState → List ℕ
 device_bytes device =
     device.buf ++ (number_bytes device.accepted ++ (number_bytes device.done ++ (number_bytes device.lost
     ++ (number_bytes (length device.pending) ++ pending_bytes device.pending))))
 
--- the whole state: the pages, the BAR and the rest of the device
+-- the whole state: the pages, the BARs and the rest of the device
 abbrev pub image : Machine → List ℕ
 image m = flat m.pages ++ ((device_of m 0).bar ++ device_bytes (device_of m 0))
 
@@ -35,7 +35,7 @@ AllFit requests = All (λ r. (r.0 < 2 ^ 32) × (r.1 < 2 ^ 32)) requests
 abbrev pub AllSized : ℕ → List (List ℕ) → Type 0
 AllSized size pages = All (λ page. length page ≡ size) pages
 
--- The bytes are those of this device without its BAR, which has counts that fit.
+-- The bytes are those of this device without its BARs, which has counts that fit.
 pub record IsHanded (device : DeviceState) (bytes : List ℕ) : Type 0 where
   pub same : bytes ≡ device_bytes device
   pub buf : length device.buf ≡ 64

@@ -47,7 +47,7 @@ pub fn append_pending(outbox: &mut Vec<u8>, pending: &[(u32, u32)])
     }
 }
 
-/// Appends the device without its BAR.
+/// Appends the device without its BARs.
 pub fn append_device(outbox: &mut Vec<u8>, plain: &Plain)
     requires device { 0 < length plain.now.devices }
     requires few { length (device_of plain.now 0).pending < 2 ^ 32 }
@@ -65,7 +65,7 @@ pub fn append_device(outbox: &mut Vec<u8>, plain: &Plain)
     append_pending(outbox, pending);
 }
 
-/// The number that the first four bytes are, and the bytes behind them.
+/// The number that the first four bytes are, and the bytes after them.
 #[tactic(auto, unfolding(crate::specs::Image::number_bytes))]
 fn take_number(bytes: &[u8]) -> (u32, &[u8])
     requires { 4 ≤ length bytes.now }
@@ -76,7 +76,7 @@ fn take_number(bytes: &[u8]) -> (u32, &[u8])
     (number, &bytes[4..])
 }
 
-/// Puts the bytes of the pages into a machine. Answers the bytes behind them.
+/// Puts the bytes of the pages into a machine. Answers the bytes after them.
 fn load_pages<'a>(plain: &mut Plain, desc: &Desc, bytes: &'a [u8]) -> &'a [u8]
     requires shape { HasShape desc.now plain.old }
     requires enough { desc.now.page * desc.now.pages ≤ length bytes.now }
@@ -93,7 +93,7 @@ fn load_pages<'a>(plain: &mut Plain, desc: &Desc, bytes: &'a [u8]) -> &'a [u8]
     rest
 }
 
-/// Adds so many requests behind the pending ones of the device.
+/// Adds so many requests after the pending ones of the device.
 fn load_pending(plain: &mut Plain, bytes: &[u8], count: u32)
     requires device { 0 < length plain.old.devices }
     requires enough { 8 * count ≤ length bytes.now }
@@ -113,7 +113,7 @@ fn load_pending(plain: &mut Plain, bytes: &[u8], count: u32)
     }
 }
 
-/// Puts the bytes of the device without its BAR into a machine.
+/// Puts the bytes of the device without its BARs into a machine.
 fn load_device(plain: &mut Plain, bytes: &[u8])
     requires device { 0 < length plain.old.devices }
     requires buf { length (device_of plain.old 0).buf ≡ 64 }

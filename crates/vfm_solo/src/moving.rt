@@ -55,7 +55,10 @@ fn most_bytes(desc: &Desc) -> usize
     ensures { result ≡ desc.now.pages * desc.now.page + bar_bytes (shape_at desc.now 0) + 80 + 8 * (shape_at desc.now 0).budget }
 {
     let shape = desc.devices.at(0);
-    desc.pages as usize * desc.page as usize + shape.bar_bytes() as usize + 80 + 8 * shape.budget as usize
+    desc.pages as usize * desc.page as usize
+        + shape.bar_bytes() as usize
+        + 80
+        + 8 * shape.budget as usize
 }
 
 impl Engine {

@@ -146,7 +146,7 @@ impl Engine {
         }
     }
 
-    /// Reads each block of the BAR in order, and appends its bytes.
+    /// Reads each block of the BARs in order, and appends its bytes.
     pub fn read_blocks(&mut self, desc: &Desc, outbox: &mut Vec<u8>)
         requires solo { IsSolo desc.now }
         requires valid { IsValid desc.now }

@@ -9,7 +9,7 @@ use crate::{Moved, move_one};
 use std::alloc::Global;
 use std::test::Fail;
 use vfm_types::{
-    Bytes64, Desc, DevShape, DeviceId, Entry, Flags, Job, Jobs, MigState, Name, Queue, Shapes,
+    Bars, Bytes64, Desc, DevShape, DeviceId, Entry, Flags, Job, Jobs, MigState, Name, Queue, Shapes,
 };
 
 const D: DeviceId = DeviceId(0);

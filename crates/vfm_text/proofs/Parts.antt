@@ -40,7 +40,7 @@ parts-map f h (x ∷ xs) (suc i) d p =
     ∙ sym (append_assoc (f (h x)) (flat_map f (map h (take i xs)) ++ f (h (get_or xs i d))) (flat_map f (map h (drop (suc i) xs))))
     ∙ ap (λ t. t ++ flat_map f (map h (drop (suc i) xs))) (sym (append_assoc (f (h x)) (flat_map f (map h (take i xs))) (f (h (get_or xs i d)))))
 
--- a line is its first word and the words up to one, then that one behind a blank, then the rest
+-- a line is its first word and the words up to one, then that one after a blank, then the rest
 pub line-parts : {X : Type 0} (h : X → List ℕ) (first : List ℕ) (words : List X) (i : ℕ) (d : X) → i < length words → line first (map h words) ≡ ((first ++ flat_map (λ word. 32 ∷ word) (map h (take i words))) ++ (32 ∷ (h (get_or words i d) ++ []))) ++ (flat_map (λ word. 32 ∷ word) (map h (drop (suc i) words)) ++ 10 ∷ [])
 line-parts h first words i d p =
     ap (λ t. (first ++ t) ++ 10 ∷ []) (parts-map (λ word. 32 ∷ word) h words i d p)

@@ -20,7 +20,7 @@ pub record IsLeft (sizes bytes rest : List ℕ) (k : ℕ) : Type 0 where
 pub next_within : (sizes bytes rest : List ℕ) (k : ℕ) → k < length sizes → IsLeft sizes bytes rest k → get_or sizes k 0 ≤ length rest
 next_within sizes bytes rest k h left = omega (arith, sum_by-drop_more (λ (x : ℕ). x) sizes k 0 h, left.count)
 
--- what is left after one more, where the piece is its front
+-- what is left after one more, where the piece is its start
 heads : (x y : List ℕ) (xs ys : List (List ℕ)) → x ∷ xs ≡ y ∷ ys → x ≡ y
 heads x y xs ys e = cc
 

@@ -4,7 +4,7 @@ use Rattle.vfm_outside.specs.Counts.{Rose}
 use Rattle.vfm_outside.specs.Told.{told_then}
 use Rattle.vfm_outside.specs.Tells.{SinkTells, sink_tells}
 
--- what such a writer is: the bytes in its buffer, and what its sink tells
+-- what such a writer is: the bytes in its buffer, and what its sink reports
 pub record Buffered : Type 0 where
   pub bytes : List ℕ
   pub sink : SinkTells

@@ -37,7 +37,12 @@ fn put_number<P: TextWriter>(writer: &mut P, word: &[u8], number: u32) -> Result
 }
 
 /// Writes a line of a word, a device and a number.
-fn put_device<P: TextWriter>(writer: &mut P, word: &[u8], d: DeviceId, number: u32) -> Result<(), Failed>
+fn put_device<P: TextWriter>(
+    writer: &mut P,
+    word: &[u8],
+    d: DeviceId,
+    number: u32,
+) -> Result<(), Failed>
     ensures { Writes P.takes P.stops writer.old writer.new (line word.now (decimal d ∷ decimal number ∷ [])) result }
 {
     let mut device = Buffer::new();
@@ -53,11 +58,20 @@ fn put_device<P: TextWriter>(writer: &mut P, word: &[u8], d: DeviceId, number: u
 }
 
 /// Writes a line of a word, a device and a state.
-fn put_to<P: TextWriter>(writer: &mut P, word: &[u8], d: DeviceId, to: MigState) -> Result<(), Failed>
+fn put_to<P: TextWriter>(
+    writer: &mut P,
+    word: &[u8],
+    d: DeviceId,
+    to: MigState,
+) -> Result<(), Failed>
     ensures { Writes P.takes P.stops writer.old writer.new (line word.now (decimal d ∷ state_name to ∷ [])) result }
 {
     let mut device = Buffer::new();
-    put_line(writer, word, &[device.format(d.0).as_bytes(), state_name(to)])
+    put_line(
+        writer,
+        word,
+        &[device.format(d.0).as_bytes(), state_name(to)],
+    )
 }
 
 /// Writes the line of an entry.

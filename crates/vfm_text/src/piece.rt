@@ -23,7 +23,7 @@ pub fn put_all<P: TextWriter>(writer: &mut P, pieces: &[&[u8]]) -> Result<(), Fa
     Ok(())
 }
 
-/// Writes a word and the words behind it as a line.
+/// Writes a word and the words after it as a line.
 pub fn put_line<P: TextWriter>(writer: &mut P, first: &[u8], words: &[&[u8]]) -> Result<(), Failed>
     ensures { Writes P.takes P.stops writer.old writer.new (line first.now (map (λ word. word.now) words.now)) result }
 {
@@ -71,7 +71,10 @@ pub fn put_hex_line<P: TextWriter>(
         (line word.now (decimal number ∷ encode_lower bytes.now ∷ [])) result }
 {
     let mut digits = Buffer::new();
-    put_all(writer, &[word, b" ", digits.format(number).as_bytes(), b" "])?;
+    put_all(
+        writer,
+        &[word, b" ", digits.format(number).as_bytes(), b" "],
+    )?;
     put_hex(writer, bytes)?;
     writer.put(b"\n")
 }

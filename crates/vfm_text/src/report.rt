@@ -36,7 +36,11 @@ pub struct ReportParts<'a> {
 }
 
 /// Writes a journal under its title.
-fn put_journal_part<P: TextWriter>(writer: &mut P, title: &[u8], journal: &Journal) -> Result<(), Failed>
+fn put_journal_part<P: TextWriter>(
+    writer: &mut P,
+    title: &[u8],
+    journal: &Journal,
+) -> Result<(), Failed>
     ensures { Writes P.takes P.stops writer.old writer.new (journal_part title.now journal.now.entries) result }
 {
     put_line(writer, b"journal", &[title])?;

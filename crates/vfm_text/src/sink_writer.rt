@@ -5,7 +5,7 @@ ghost use Rattle.vfm_outside.specs.Tells.{sink_tells};
 ghost use Rattle.vfm_text.specs.Prints.{Prints};
 
 use crate::TextWriter;
-use crate::buffer::{TextBuffer, ROOM};
+use crate::buffer::{ROOM, TextBuffer};
 use vfm_outside::{Failed, Sink, write_all};
 
 /// Buffers a text, and gives it to a sink in pieces of kilobytes.
@@ -24,11 +24,11 @@ impl<S: Sink> TextWriter for SinkWriter<'_, S> {
 
     ghost takes = { λ a b text. (b.sink.ghost_name ≡ a.sink.ghost_name)
         × Buffers (buffered a.buffer (sink_tells (S.holds a.sink.now) (S.faults a.sink.now))) text
-          (buffered b.buffer (sink_tells (S.holds b.sink.now) (S.faults b.sink.now))) };
+        (buffered b.buffer (sink_tells (S.holds b.sink.now) (S.faults b.sink.now))) };
 
     ghost stops = { λ a b text. (b.sink.ghost_name ≡ a.sink.ghost_name)
         × Spills (buffered a.buffer (sink_tells (S.holds a.sink.now) (S.faults a.sink.now))) text
-          (sink_tells (S.holds b.sink.now) (S.faults b.sink.now)) };
+        (sink_tells (S.holds b.sink.now) (S.faults b.sink.now)) };
 
     ghost nothing = { λ writer. (refl, buffers_nothing (buffered writer.buffer (sink_tells (S.holds writer.sink.now) (S.faults writer.sink.now)))) };
 

@@ -10,8 +10,8 @@ ghost use Rattle.vfm_plain.specs.Shape.{HasShape};
 ghost use Rattle.vfm_plain.specs.StateText.{pages_text, pending_line, counts_line, buf_line, bar_line, numbered_bar_line, pieces, bars_text, described_text, devices_text, state_text};
 ghost use Rattle.vfm_text.specs.Writers.{Writes};
 
-use crate::{TextBuffer, TextWriter};
 use crate::piece::{put_hex_line, put_line};
+use crate::{TextBuffer, TextWriter};
 use itoa::Buffer;
 use vfm_outside::Failed;
 use vfm_plain::Plain;
@@ -29,7 +29,12 @@ fn put_pages<P: TextWriter>(writer: &mut P, plain: &Plain, desc: &Desc) -> Resul
 }
 
 /// Writes the line of a device with its name and its counts.
-fn put_counts<P: TextWriter>(writer: &mut P, plain: &Plain, desc: &Desc, d: DeviceId) -> Result<(), Failed>
+fn put_counts<P: TextWriter>(
+    writer: &mut P,
+    plain: &Plain,
+    desc: &Desc,
+    d: DeviceId,
+) -> Result<(), Failed>
     requires shape { HasShape desc.now plain.now }
     requires device { d < device_count desc.now }
     ensures { Writes P.takes P.stops writer.old writer.new (counts_line d (shape_at desc.now d).name (device_of plain.now d)) result }
@@ -129,7 +134,11 @@ fn put_bars<P: TextWriter>(
 }
 
 /// Writes the line of a pending request.
-fn put_request<P: TextWriter>(writer: &mut P, d: DeviceId, request: (u32, u32)) -> Result<(), Failed>
+fn put_request<P: TextWriter>(
+    writer: &mut P,
+    d: DeviceId,
+    request: (u32, u32),
+) -> Result<(), Failed>
     ensures { Writes P.takes P.stops writer.old writer.new (pending_line d request) result }
 {
     let mut device = Buffer::new();
@@ -147,7 +156,11 @@ fn put_request<P: TextWriter>(writer: &mut P, d: DeviceId, request: (u32, u32)) 
 }
 
 /// Writes the lines of pending requests.
-fn put_pending<P: TextWriter>(writer: &mut P, d: DeviceId, pending: &[(u32, u32)]) -> Result<(), Failed>
+fn put_pending<P: TextWriter>(
+    writer: &mut P,
+    d: DeviceId,
+    pending: &[(u32, u32)],
+) -> Result<(), Failed>
     ensures { Writes P.takes P.stops writer.old writer.new (flat_map (pending_line d) pending.now) result }
 {
     for request in pending {
@@ -157,7 +170,12 @@ fn put_pending<P: TextWriter>(writer: &mut P, d: DeviceId, pending: &[(u32, u32)
 }
 
 /// Writes the lines of a device.
-fn put_device<P: TextWriter>(writer: &mut P, plain: &Plain, desc: &Desc, d: DeviceId) -> Result<(), Failed>
+fn put_device<P: TextWriter>(
+    writer: &mut P,
+    plain: &Plain,
+    desc: &Desc,
+    d: DeviceId,
+) -> Result<(), Failed>
     requires shape { HasShape desc.now plain.now }
     requires device { d < device_count desc.now }
     ensures { Writes P.takes P.stops writer.old writer.new (described_text desc.now d (device_of plain.now d)) result }

@@ -1,17 +1,18 @@
 //! What no clause says: that the calls succeed, and the printed text of a small machine.
 
-ghost use Rattle.std.specs.Prelude.{IfOk, ◌<◌};
+ghost use Rattle.std.specs.Prelude.{IfOk, IsTrue, ◌<◌};
 ghost use Rattle.vfm_types.specs.Desc.{device_count};
+ghost use Rattle.vfm_types.specs.Ranges.{are_bar_sizes};
 ghost use Rattle.vfm_types.specs.Valid.{IsValid};
 
-use crate::{Told, state_digest, write_journal, write_report, write_state};
+use crate::{ReportParts, state_digest, write_journal, write_report, write_state};
 use std::alloc::Global;
 use std::test::Fail;
 use vfm_journal::Journal;
 use vfm_outside::{Failed, MemSink};
 use vfm_plain::Plain;
 use vfm_types::{
-    Bytes64, Desc, DevShape, DeviceId, Entry, Flags, Job, Jobs, MigState, Name, Queue, Shapes,
+    Bars, Bytes64, Desc, DevShape, DeviceId, Entry, Flags, Job, Jobs, MigState, Name, Queue, Shapes,
 };
 
 const STATE: [&str; 6] = [
@@ -23,6 +24,12 @@ const STATE: [&str; 6] = [
     "pend 0 0 0",
 ];
 
+// The lines of the BARs where there are two, of 128 and of 64 bytes.
+const TWO_BARS: [&str; 2] = [
+    "bar 0 0 0000000000000000000000000000000000000000000000000000000000000000000000000000000000000000000000000000000000000000000000000000000000000000000000000000000000000000000000000000000000000000000000000000000000000000000000000000000000000000000000000000000000000000",
+    "bar 0 1 00000000000000000000000000000000000000000000000000000000000000000000000000000000000000000000000000000000000000000000000000000000",
+];
+
 const JOURNAL: [&str; 5] = [
     "begin",
     "hold 0 STOP",
@@ -31,8 +38,9 @@ const JOURNAL: [&str; 5] = [
     "block 0 10",
 ];
 
-// One device with one write of four bytes, which is pending.
-fn small_desc(alloc: Global) -> Result<Desc, Fail>
+// One device with BARs of these sizes and with one write of four bytes, which is pending.
+fn small_desc(alloc: Global, sizes: &[u32]) -> Result<Desc, Fail>
+    requires { IsTrue (are_bar_sizes sizes.now) }
     ensures valid { IfOk result IsValid }
     ensures few { IfOk result (λ desc. device_count desc < 256) }
 {
@@ -42,7 +50,7 @@ fn small_desc(alloc: Global) -> Result<Desc, Fail>
     let shape = DevShape {
         name: Name::of(b"a").ok_or("name")?,
         flags: Flags::of(1).ok_or("flags")?,
-        bar: 64,
+        bars: Bars::of(sizes).ok_or("bars")?,
         window: 1,
         tells: true,
         budget: 1,
@@ -88,7 +96,7 @@ fn ample(alloc: Global) -> Result<MemSink, Fail> {
     Ok(MemSink::of(alloc, 4096, Vec::new(alloc), 1000)?)
 }
 
-// Puts lines behind a text.
+// Puts lines after a text.
 fn add_lines(text: &mut Vec<u8>, lines: &[&str]) -> Result<(), Fail> {
     for line in lines {
         text.extend_from_slice(line.as_bytes())?;
@@ -111,7 +119,7 @@ fn a_journal_has_a_line_for_each_entry(rt: HostRuntime) -> Result<(), Fail> {
 #[test]
 fn a_machine_has_its_lines_and_its_digest(rt: HostRuntime) -> Result<(), Fail> {
     let alloc = rt.alloc();
-    let desc = small_desc(alloc)?;
+    let desc = small_desc(alloc, &[64])?;
     let plain = Plain::of(alloc, &desc)?;
     let mut text = Vec::new(alloc);
     add_lines(&mut text, &STATE)?;
@@ -128,9 +136,24 @@ fn a_machine_has_its_lines_and_its_digest(rt: HostRuntime) -> Result<(), Fail> {
 }
 
 #[test]
+fn each_of_several_bars_has_a_line(rt: HostRuntime) -> Result<(), Fail> {
+    let alloc = rt.alloc();
+    let desc = small_desc(alloc, &[128, 64])?;
+    let plain = Plain::of(alloc, &desc)?;
+    let mut text = Vec::new(alloc);
+    add_lines(&mut text, &STATE[..4])?;
+    add_lines(&mut text, &TWO_BARS)?;
+    add_lines(&mut text, &STATE[5..])?;
+    let mut sink = ample(alloc)?;
+    assert_eq!(rt; write_state(&plain, &desc, &mut sink), Ok(()));
+    assert_eq!(rt; sink.bytes(), text.as_slice());
+    Ok(())
+}
+
+#[test]
 fn a_report_has_its_parts_in_order(rt: HostRuntime) -> Result<(), Fail> {
     let alloc = rt.alloc();
-    let desc = small_desc(alloc)?;
+    let desc = small_desc(alloc, &[64])?;
     let plain = Plain::of(alloc, &desc)?;
     let journal = small_journal(alloc)?;
     let mut text = Vec::new(alloc);
@@ -148,28 +171,30 @@ fn a_report_has_its_parts_in_order(rt: HostRuntime) -> Result<(), Fail> {
     let mut sink = ample(alloc)?;
     let machine = Some(&plain);
     let destination = Some(&journal);
-    let told = Told {
+    let parts = ReportParts {
+        desc: &desc,
         source: &journal,
         joint: machine,
         loaded: machine,
         destination,
-        last: machine,
+        final_state: machine,
     };
-    let answer = write_report(&desc, b"status moved\n", &told, &mut sink);
-    let Told {
+    let answer = write_report(b"status moved\n", &parts, &mut sink);
+    let ReportParts {
+        desc: _,
         source: _,
         joint: _,
         loaded: _,
         destination: _,
-        last: _,
-    } = told;
+        final_state: _,
+    } = parts;
     assert_eq!(rt; answer, Ok(()));
     assert_eq!(rt; sink.bytes(), text.as_slice());
     Ok(())
 }
 
 #[test]
-fn a_sink_that_fails_has_the_front_of_the_text(rt: HostRuntime) -> Result<(), Fail> {
+fn a_sink_that_fails_has_a_prefix_of_the_text(rt: HostRuntime) -> Result<(), Fail> {
     let alloc = rt.alloc();
     let mut sink = MemSink::of(alloc, 4096, [2u32].to_vec(alloc)?, 16)?;
     assert_eq!(rt;

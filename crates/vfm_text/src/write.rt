@@ -10,9 +10,9 @@ ghost use Rattle.vfm_outside.specs.Tells.{sink_tells};
 ghost use Rattle.vfm_text.specs.Parts.{made_of, CanPrint};
 ghost use Rattle.vfm_text.specs.Prints.{Prints};
 
+use crate::buffer::TextBuffer;
 use crate::digest_writer::DigestWriter;
 use crate::entry::put_journal;
-use crate::buffer::TextBuffer;
 use crate::report::{ReportParts, put_report};
 use crate::sink_writer::SinkWriter;
 use crate::state::put_state;

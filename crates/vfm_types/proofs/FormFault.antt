@@ -96,7 +96,7 @@ pub job_in_range : (D : Desc) (d : ℕ) (shape : DevShape) (j : ℕ) (job : Job)
 job_in_range D d shape j job ranges within is there here =
     list_all_one is_job_in_range shape.jobs j job there here (ap (λ (s : DevShape). list_all is_job_in_range s.jobs) is ∙ (ranges.devices d within).jobs)
 
--- ---- no fault of a description's form is want of memory
+-- ---- no fault of a description's form is that memory ran out
 
 no_memory-cond : (b : Bool) (x y : Option DescFault) → (x ≡ Some NoMemory → ⊥) → (y ≡ Some NoMemory → ⊥) → cond b x y ≡ Some NoMemory → ⊥
 no_memory-cond true x y hx hy e = hx e

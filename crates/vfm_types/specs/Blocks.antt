@@ -18,7 +18,7 @@ use Rattle.vfm_types.specs.Phases.{is_joint}
 use Rattle.vfm_types.specs.Arcs.{state_of}
 use Rattle.vfm_types.specs.Marks.{next_copy}
 
--- the job writes a byte of block b of device d's BAR; a doorbell writes none
+-- the job writes a byte of block b of device d's BARs; a doorbell writes none
 abbrev pub writes_block : Desc → ℕ → ℕ → Job → Bool
 writes_block D d b job =
     let place = place_of D job in
@@ -65,7 +65,7 @@ was_dry d (Dry e ∷ past) = e == d || was_dry d past
 was_dry d (Pass k ∷ past) = false
 was_dry d (entry ∷ past) = was_dry d past
 
--- the part of device d in the newest pass is yet to end: by running dry, or by as many reads as the BAR has blocks
+-- the part of device d in the newest pass is yet to end: by running dry, or by as many reads as the BARs have blocks
 abbrev pub has_part : Desc → ℕ → List Entry → Bool
 has_part D d past =
     takes_part d past && not (was_dry d past) && nat_lt (blocks_read d past) (block_count (shape_at D d))

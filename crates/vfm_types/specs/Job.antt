@@ -8,7 +8,7 @@ use Rattle.vfm_types.specs.declared.job.Place.{Place}
 use Rattle.vfm_types.specs.declared.desc.Desc.{Desc}
 use Rattle.vfm_types.specs.Region.{region_of}
 
--- a job that waits for each request before it, and that each request behind it waits for
+-- a job that waits for each request before it, and that each request after it waits for
 abbrev pub is_fence : Job → Bool
 is_fence (Write at bytes) = false
 is_fence (Read at len) = true
@@ -51,12 +51,12 @@ page_zero_if_nowhere = record { region = Page 0; offset = 0 }
 abbrev pub place_of : Desc → Job → Place
 place_of D job = unwrap_or (region_of D (address_of job) (length_of job)) page_zero_if_nowhere
 
--- the region is a BAR
+-- the region is the BARs of a device
 abbrev pub is_bar : Region → Bool
 is_bar (Page p) = false
 is_bar (Bar d) = true
 
--- the region is this device's BAR
+-- the region is this device's BARs
 abbrev pub is_bar_of : ℕ → Region → Bool
 is_bar_of d (Page p) = false
 is_bar_of d (Bar e) = e == d
@@ -66,7 +66,7 @@ abbrev pub is_page : ℕ → Region → Bool
 is_page p (Page q) = q == p
 is_page p (Bar d) = false
 
--- the device whose BAR it is; 0 for a page, which no device owns
+-- the device whose BARs it is; 0 for a page, which no device owns
 abbrev pub owner_or_zero : Region → ℕ
 owner_or_zero (Page p) = 0
 owner_or_zero (Bar d) = d

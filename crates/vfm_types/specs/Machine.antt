@@ -11,7 +11,7 @@ use Rattle.vfm_types.specs.declared.desc.Desc.{Desc}
 use Rattle.vfm_types.specs.Desc.{shape_at, bar_bytes}
 use Rattle.vfm_types.specs.Job.{place_of, owner_or_zero, is_bell}
 
--- A device: the bytes of its BAR, the requests that it has accepted and not done (number and job, in order), its
+-- A device: the bytes of its BARs, the requests that it has accepted and not done (number and job, in order), its
 -- buffer of 64 bytes, and how many requests it accepted, did, and lost because no such job or no budget was there.
 pub record DeviceState : Type 0 where
   pub bar : List ℕ
@@ -81,7 +81,7 @@ bytes_at m place len = take len (drop place.offset (bytes_in m place.region))
 abbrev pub put_at : Machine → Place → List ℕ → Machine
 put_at m place bytes = with_bytes m place.region (splice (bytes_in m place.region) place.offset bytes)
 
--- these bytes put at the front of a device's buffer
+-- these bytes put at the start of a device's buffer
 abbrev pub with_front : Machine → ℕ → List ℕ → Machine
 with_front m d bytes = with_device m d (record (device_of m d) { buf = splice (device_of m d).buf 0 bytes })
 

@@ -16,7 +16,7 @@ abbrev pub without : ℕ → List (ℕ × ℕ) → List (ℕ × ℕ)
 without n [] = []
 without n (request ∷ requests) = if request.0 == n then requests else request ∷ without n requests
 
--- request n stands among the first `window` of these, behind none that fences it off; a fence only where it is first
+-- request n stands among the first `window` of these, after none that fences it off; a fence only where it is first
 abbrev pub is_free : (ℕ → Bool) → Bool → ℕ → List (ℕ × ℕ) → ℕ → Bool
 is_free fence first zero requests n = false
 is_free fence first (suc window) [] n = false

@@ -67,7 +67,7 @@ pub record InRange (D : Desc) : Type 0 where
   pub count_high : device_count D ≤ most Devices
   pub devices : (d : ℕ) → d < device_count D → ShapeInRange (shape_at D d)
 
--- job of device d is aimed at one place, not its own BAR, and spoils no doorbell
+-- job of device d is aimed at one place, not its own BARs, and spoils no doorbell
 pub record IsSoundJob (D : Desc) (d : ℕ) (job : Job) : Type 0 where
   pub placed : region_of D (address_of job) (length_of job) ≡ Some (place_of D job)
   pub not_own : is_bar_of d (place_of D job).region ≡ false

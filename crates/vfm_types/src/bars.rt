@@ -4,7 +4,7 @@ ghost use Rattle.std.specs.Prelude.{◌≡◌, ◌+◌, ◌≤◌, ◌<◌, ◌^
 
 use std::marker::Model;
 
-/// How many BARs a device may have.
+/// A device has at most so many BARs, as many as a PCI function has base address registers.
 const MOST_BARS: usize = 6;
 
 /// The sizes in bytes of the 1 to 6 BARs of a device, whose sum is below 2^32. Seen as the list of them.

@@ -28,7 +28,7 @@ pub enum Entry {
     Pass { k: u32 },
     /// Page `p` of the pass is copied.
     Copy { p: u32 },
-    /// Block `b` (64 bytes) of the BAR of device `d` is read.
+    /// Block `b` (64 bytes) of the BARs of device `d` is read; blocks count over all of them.
     Block { d: DeviceId, b: u32 },
     /// Device `d` has no block to read now.
     Dry { d: DeviceId },

@@ -51,7 +51,7 @@ pub enum DescFault {
     NameTwice { device: u32 },
     /// The job's range doesn't lie in one page or one BAR.
     Crosses { device: u32, job: u32 },
-    /// The job is aimed at its own device's BAR.
+    /// The job is aimed at its own device's BARs.
     OwnBar { device: u32, job: u32 },
     /// The job touches a doorbell otherwise than by a write or store of all its 8 bytes.
     BellKind { device: u32, job: u32 },

@@ -12,11 +12,11 @@ use vfm_base::Duplicate;
 pub enum Job {
     /// Puts the bytes at the address.
     Write { at: u64, bytes: Bytes64 },
-    /// Takes `len` (1 to 64) bytes from the address into the front of the issuer's 64-byte buffer. A fence.
+    /// Takes `len` (1 to 64) bytes from the address into the start of the issuer's 64-byte buffer. A fence.
     Read { at: u64, len: u8 },
-    /// Puts the front `len` (1 to 64) bytes of the issuer's buffer at the address. A fence.
+    /// Puts the first `len` (1 to 64) bytes of the issuer's buffer at the address. A fence.
     Store { at: u64, len: u8 },
-    /// Adds the value to the 8 bytes at the address, little-endian and wrapping, and puts the old 8 bytes at the front
+    /// Adds the value to the 8 bytes at the address, little-endian and wrapping, and puts the old 8 bytes at the start
     /// of the issuer's buffer. A fence.
     Add { at: u64, value: u64 },
 }
@@ -72,7 +72,7 @@ impl Job {
         }
     }
 
-    /// Whether it waits for each request before it, and each request behind it waits for it.
+    /// Whether it waits for each request before it, and each request after it waits for it.
     pub fn is_fence(&self) -> bool
         ensures { result ≡ is_fence self.now }
     {
@@ -99,7 +99,7 @@ impl Job {
 pub enum Region {
     /// In this page of memory.
     Page(u32),
-    /// In a BAR of this device.
+    /// In the BARs of this device.
     Bar(DeviceId),
 }
 

@@ -1,4 +1,4 @@
--- The law of spellings.
+-- The law of encodings.
 use Rattle.vfm_record.proofs.Again as again
 use Rattle.vfm_record.proofs.laws.one_encoding.Goals as goal
 

@@ -1,4 +1,4 @@
--- What is read was spelled.
+-- What is read was encoded.
 use Rattle.std.proofs.Common.{sym}
 use Rattle.vfm_record.proofs.Found.{found}
 use Rattle.vfm_record.proofs.laws.read_is_written.Goals as goal

@@ -1,4 +1,4 @@
--- What is spelled is read.
+-- What is encoded is read.
 use Rattle.vfm_record.proofs.Again.{again}
 use Rattle.vfm_record.proofs.laws.written_is_read.Goals as goal
 

@@ -1,4 +1,4 @@
--- The tests and the spelling agree.
+-- The tests and the encoding agree.
 use Rattle.std.proofs.Common.{◌≡◌, ap, ◌∙◌, arith}
 use Rattle.vfm_base.specs.Words.{IsBytes}
 use Rattle.vfm_record.specs.Record.{Record, record_bytes, IsRecordOf}

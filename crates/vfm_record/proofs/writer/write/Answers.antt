@@ -1,4 +1,4 @@
--- The spelling of a record in its two parts.
+-- The encoding of a record in its two parts.
 use Rattle.std.proofs.Common.{◌≡◌, ℕ, ◌+◌, ◌<◌, List, ◌++◌, length, vec_len, vec_capacity, OnOk, OnErr, sym, ap, ◌∙◌, subst, length-append}
 use Rattle.vfm_record.specs.declared.record.Rec.{Rec}
 use Rattle.vfm_record.specs.Record.{record_bytes, record_of}
@@ -8,7 +8,7 @@ use Rattle.vfm_record.proofs.writer.write.Goals as goal
 pub returns-in-Engine-clause-ok : goal.returns-in-Engine-clause-ok
 returns-in-Engine-clause-ok c = rw (c.in-Engine.is) (rw c.engine_head.ensures at c.put-in-Engine.ensures.ok)
 
--- head and bytes spell the pending requests
+-- head and bytes encode the pending requests
 parts : (c : goal.After-put-in-Pending) → c.pending_head.result ++ c.in-Pending.bytes.now ≡ record_bytes (record_of c.args.r.now)
 parts c =
     let writable = rw c.in-Pending.is at c.requires in

@@ -1,4 +1,4 @@
--- The bit of a page tells whether the set has it.
+-- The bit of a page says whether the set has it.
 use Rattle.vfm_base.proofs.PageWords.{bit_of_page, set_of_words}
 use Rattle.vfm_base.proofs.pages.PageSet.has.Goals as goal
 

@@ -1,4 +1,4 @@
--- What a flush prints is what was gathered, or a front of it.
+-- What a flush prints is what was gathered, or a prefix of it.
 use Rattle.std.proofs.Common.{take, drop, sym}
 use Rattle.std.proofs.lemmas.List.{take-append-drop}
 use Rattle.std.proofs.lemmas.Result.{IfErr-weaker}

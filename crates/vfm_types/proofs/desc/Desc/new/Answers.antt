@@ -1,4 +1,4 @@
--- A fault of the form is never want of memory.
+-- A fault of the form is never that memory ran out.
 use Rattle.vfm_types.proofs.FormFault.{no_memory-form_fault}
 use Rattle.vfm_types.proofs.desc.Desc.new.Goals as goal
 
