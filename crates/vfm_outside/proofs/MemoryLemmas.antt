@@ -3,12 +3,12 @@ use Rattle.std.proofs.Common.{◌≡◌, ◌∙◌, sym, ap, ℕ, ◌+◌, ◌-�
 use Rattle.std.proofs.lemmas.List.{take-append-drop, drop-drop, drop_all}
 use Rattle.vfm_outside.proofs.ToldLemmas.{take-then-take}
 
--- what is left at a place is what is given there, and then what is left behind it
+-- what is left at a place is what is given there, and then what is left after it
 pub left-given : (bytes lent buf : List ℕ) (at n : ℕ) → lent ≡ bytes → take n buf ≡ take n (drop at lent)
     → Some (drop at bytes) ≡ Some (take n buf ++ drop (at + n) bytes)
 left-given bytes lent buf at n e given =
     ap Some (sym (take-append-drop n (drop at bytes))
-    ∙ ap (λ front. front ++ drop n (drop at bytes)) (sym (given ∙ ap (λ xs. take n (drop at xs)) e))
+    ∙ ap (λ start. start ++ drop n (drop at bytes)) (sym (given ∙ ap (λ xs. take n (drop at xs)) e))
     ∙ ap (λ back. take n buf ++ back) (drop-drop n at bytes))
 
 -- where nothing was given though something was wanted, nothing is left

@@ -4,11 +4,11 @@ use Rattle.std.proofs.Common.{◌≡◌, ◌∙◌, sym, ap, ℕ, ◌+◌, ◌-�
 use Rattle.std.proofs.lemmas.List.{take-append-drop, take-take, drop-take, take_at, take_all, take_rest}
 use Rattle.vfm_outside.specs.Told.{told_then, then_told, TellsNone, told_then-told_then, then_told-then_told}
 
--- a front, and a front of what is behind it, are a longer front
+-- a prefix, and a prefix of what follows it, are a longer prefix
 pub take-then-take : {T : Type 0} (xs : List T) (i n : ℕ) → take i xs ++ take n (drop i xs) ≡ take (i + n) xs
 take-then-take xs i n =
     let short : i ≤ i + n = omega arith in
-    ap (λ front. front ++ take n (drop i xs)) (sym (take-take i (i + n) xs short))
+    ap (λ start. start ++ take n (drop i xs)) (sym (take-take i (i + n) xs short))
     ∙ ap (λ back. take i (take (i + n) xs) ++ back) (sym (drop-take i n xs))
     ∙ take-append-drop i (take (i + n) xs)
 

@@ -53,7 +53,7 @@ impl Script {
     }
 }
 
-/// Copies the next bytes of a list, at most `most`, to the front of a buffer, and says how many.
+/// Copies the next bytes of a list, at most `most`, to the start of a buffer, and says how many.
 pub fn give(bytes: &[u8], at: usize, most: usize, buf: &mut [u8]) -> usize
     requires within { at ≤ length bytes.now }
     requires fits { most ≤ length buf.old }

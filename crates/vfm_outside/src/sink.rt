@@ -14,7 +14,7 @@ pub trait Sink {
     /// The bytes taken so far, where the sink tells them.
     ghost holds: { Self → Option (List ℕ) };
 
-    /// Takes a front of the piece, and answers how many bytes of it: at least one, if the piece isn't empty. A sink
+    /// Takes a prefix of the piece, and answers how many bytes of it: at least one, if the piece isn't empty. A sink
     /// that takes none of a piece that isn't empty answers `Failed` and counts it. An empty piece changes nothing.
     fn write(&mut self, bytes: &[u8]) -> Result<usize, Failed>
         ensures count { CountsFaults result (faults self.old) (faults self.new) }

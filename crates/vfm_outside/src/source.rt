@@ -19,8 +19,8 @@ pub trait Source {
     /// The bytes that are left to give, where the source tells them.
     ghost left: { Self → Option (List ℕ) };
 
-    /// Gives bytes at the front of `buf`, and answers how many. With a buffer that isn't empty, 0 is the end. What
-    /// stands in `buf` behind them is left open, and after `Failed` all of it. An empty buffer changes nothing.
+    /// Gives bytes at the start of `buf`, and answers how many. With a buffer that isn't empty, 0 is the end. What
+    /// stands in `buf` after them is left open, and after `Failed` all of it. An empty buffer changes nothing.
     fn read(&mut self, buf: &mut [u8]) -> Result<usize, Failed>
         ensures count { CountsFaults result (faults self.old) (faults self.new) }
         ensures given { Reads result buf.new (left self.old) (left self.new) }

@@ -39,7 +39,7 @@ pub trait Wires {
     ghost asked: { Self → Option (List ℕ) };
 
     /// What the links that were taken back last tell, if there were any. All wires tell it: of each link whether it
-    /// has ended and how often it failed, and what it sent and received where the link told that.
+    /// has ended and how often it failed, and what it sent and received where the link tells that.
     ghost carried: { Self → Option ToldEnds };
 
     /// One control link and `channels` channels for each end, all of them new.
