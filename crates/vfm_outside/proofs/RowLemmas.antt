@@ -1,5 +1,5 @@
 -- Rows of new links, one pair after the other.
-use Rattle.std.proofs.Common.{◌≡◌, ◌∙◌, sym, ap, subst, ℕ, zero, suc, ◌+◌, ◌*◌, ◌<◌, List, [], ◌∷◌, ◌++◌, length, map, inl, inr, arith}
+use Rattle.std.proofs.Common.{◌≡◌, ◌∙◌, sym, subst, ℕ, zero, suc, ◌+◌, ◌*◌, ◌<◌, List, [], ◌∷◌, ◌++◌, length, map, inl, inr, arith}
 use Rattle.std.specs.Prelude.{slice_index_or}
 use Rattle.std.specs.List.{All}
 use Rattle.std.proofs.lemmas.Bool.{cases_lt}
@@ -7,7 +7,7 @@ use Rattle.std.proofs.lemmas.List.{length-append, get_or_append_left, get_or_pus
 use Rattle.std.proofs.lemmas.List.Elements.{All-append}
 use Rattle.vfm_outside.specs.declared.ring_link.RingLink.{RingLink}
 use Rattle.vfm_outside.specs.Links.{Told, IsNew}
-use Rattle.vfm_outside.specs.RingEnds.{ring_told, plan_of, HavePlans, AreJoined, AreRows}
+use Rattle.vfm_outside.specs.RingEnds.{ring_told, Settings, IsMade, AreMade, AreJoined, AreRows}
 
 -- what holds of each place of a row holds of a row with one more, where it holds of that one
 each_more : (P : ℕ → RingLink → Type 0) (row : List RingLink) (link : RingLink)
@@ -30,11 +30,11 @@ all_new_more row link each last =
     subst (All IsNew) (sym (map-append ring_told row (link ∷ [])))
     (All-append IsNew (map ring_told row) (ring_told link ∷ []) each (one_new link last))
 
-plans_more : (fail : List (ℕ × ℕ)) (first k : ℕ) (row : List RingLink) (link : RingLink) → length row ≡ k → HavePlans fail first row
-    → link.script ≡ plan_of fail (first + 2 * k) → HavePlans fail first (row ++ link ∷ [])
-plans_more fail first k row link count each last =
-    each_more (λ n l. l.script ≡ plan_of fail (first + 2 * n)) row link each
-    (subst (λ (n : ℕ). link.script ≡ plan_of fail (first + 2 * n)) (sym count) last)
+made_more : (settings : Settings) (first k : ℕ) (row : List RingLink) (link : RingLink) → length row ≡ k → AreMade settings first row
+    → IsMade settings (first + 2 * k) link → AreMade settings first (row ++ link ∷ [])
+made_more settings first k row link count each last =
+    each_more (λ n l. IsMade settings (first + 2 * n) l) row link each
+    (subst (λ (n : ℕ). IsMade settings (first + 2 * n) link) (sym count) last)
 
 joined_more : (source dest : List RingLink) (near far : RingLink) → length source ≡ length dest
     → ((k : ℕ) (d e : RingLink) → k < length source → AreJoined (slice_index_or source k d) (slice_index_or dest k e)) → AreJoined near far
@@ -52,17 +52,17 @@ joined_more source dest near far counts each last k d e below =
     ]
 
 -- one more channel
-pub rows_more : (fail : List (ℕ × ℕ)) (k : ℕ) (source dest : List RingLink) (near far : RingLink) → AreRows fail k source dest
-    → IsNew (ring_told near) → IsNew (ring_told far) → near.script ≡ plan_of fail (2 + 2 * k) → far.script ≡ plan_of fail (2 + 2 * k + 1)
-    → AreJoined near far → AreRows fail (k + 1) (source ++ near ∷ []) (dest ++ far ∷ [])
-rows_more fail k source dest near far rows near_new far_new near_plan far_plan joined =
+pub rows_more : (settings : Settings) (k : ℕ) (source dest : List RingLink) (near far : RingLink) → AreRows settings k source dest
+    → IsNew (ring_told near) → IsNew (ring_told far) → IsMade settings (2 + 2 * k) near → IsMade settings (2 + 2 * k + 1) far
+    → AreJoined near far → AreRows settings (k + 1) (source ++ near ∷ []) (dest ++ far ∷ [])
+rows_more settings k source dest near far rows near_new far_new near_made far_made joined =
     let number : 2 + 2 * k + 1 ≡ 3 + 2 * k = omega arith in
     record {
       source_count = omega (arith, length-append source (near ∷ []), rows.source_count);
       dest_count = omega (arith, length-append dest (far ∷ []), rows.dest_count);
       source_new = all_new_more source near rows.source_new near_new;
       dest_new = all_new_more dest far rows.dest_new far_new;
-      source_plans = plans_more fail 2 k source near rows.source_count rows.source_plans near_plan;
-      dest_plans = plans_more fail 3 k dest far rows.dest_count rows.dest_plans (far_plan ∙ ap (plan_of fail) number);
+      source_made = made_more settings 2 k source near rows.source_count rows.source_made near_made;
+      dest_made = made_more settings 3 k dest far rows.dest_count rows.dest_made (subst (λ (n : ℕ). IsMade settings n far) number far_made);
       joined = joined_more source dest near far (rows.source_count ∙ sym rows.dest_count) rows.joined joined;
     }

@@ -3,6 +3,7 @@ pub mod Counts
 pub mod Links
 pub mod Pieces
 pub mod RingEnds
+pub mod RingSettings
 pub mod Rings
 pub mod Script
 pub mod ScriptEnds

@@ -83,6 +83,7 @@ impl RingLink {
         ensures new { IsNew (ring_told result) }
         ensures script { result.script ≡ new_plan fail.items 256 }
         ensures rings { (result.out ≡ out) × (result.inlet.ring ≡ ring) }
+        ensures patience { result.patience ≡ patience }
     {
         RingLink {
             out,

@@ -6,7 +6,8 @@ ghost use Rattle.std.specs.Option.{option_map};
 ghost use Rattle.vfm_outside.specs.Counts.{Rose, Includes, counted};
 ghost use Rattle.vfm_outside.specs.Told.{told_then};
 ghost use Rattle.vfm_outside.specs.Links.{IsNew, AreNew, ends_faults};
-ghost use Rattle.vfm_outside.specs.RingEnds.{ring_told, ring_ends, held_ring_faults, plan_of, call_of, AreJoined, AreRows, AreNumbered, AreConnected};
+ghost use Rattle.vfm_outside.specs.RingEnds.{ring_told, ring_ends, held_ring_faults, call_of, settings_of, IsMade, AreJoined, AreRows, AreNumbered, AreConnected};
+ghost use Rattle.vfm_outside.specs.RingSettings.{wires_settings};
 
 use crate::faults::all_faults;
 use crate::ring_link::RingLink;
@@ -47,7 +48,7 @@ impl RingWires {
         ensures asked { ⟦<RingWires as Wires>⟧.asked result ≡ Some [] }
         ensures carried { ⟦<RingWires as Wires>⟧.carried result ≡ None }
         ensures faults { ⟦<RingWires as Wires>⟧.faults result ≡ 0 }
-        ensures fail { result.fail.items ≡ fail.items }
+        ensures settings { wires_settings result ≡ settings_of fail.items slots patience }
     {
         RingWires {
             alloc,
@@ -79,8 +80,8 @@ fn calls_of(plan: &Plan, link: u64) -> Result<Vec<u32>, NoMemory>
 fn pair_of(plan: &Plan, link: u64) -> Result<(RingLink, RingLink), NoMemory>
     requires { link + 1 < 2 ^ 64 }
     ensures new { IfOk result (λ pair. IsNew (ring_told pair.0) × IsNew (ring_told pair.1)) }
-    ensures plans { IfOk result (λ pair. (pair.0.script ≡ plan_of plan.now.fail.now link)
-        × (pair.1.script ≡ plan_of plan.now.fail.now (link + 1))) }
+    ensures made { let settings = settings_of plan.now.fail.now plan.now.slots plan.now.patience in
+        IfOk result (λ pair. IsMade settings link pair.0 × IsMade settings (link + 1) pair.1) }
     ensures joined { IfOk result (λ pair. AreJoined pair.0 pair.1) }
 {
     let (near_out, far_in) = RingBuffer::new(plan.alloc, plan.slots)?;
@@ -92,7 +93,8 @@ fn pair_of(plan: &Plan, link: u64) -> Result<(RingLink, RingLink), NoMemory>
 
 // The channels of the two ends.
 fn channels_of(plan: &Plan, channels: u32) -> Result<(Vec<RingLink>, Vec<RingLink>), NoMemory>
-    ensures rows { IfOk result (λ rows. AreRows plan.now.fail.now channels rows.0.items rows.1.items) }
+    ensures rows { let settings = settings_of plan.now.fail.now plan.now.slots plan.now.patience in
+        IfOk result (λ rows. AreRows settings channels rows.0.items rows.1.items) }
 {
     let mut source = Vec::with_capacity(plan.alloc, channels as usize)?;
     let mut dest = Vec::with_capacity(plan.alloc, channels as usize)?;
@@ -107,7 +109,7 @@ fn channels_of(plan: &Plan, channels: u32) -> Result<(Vec<RingLink>, Vec<RingLin
 // The links of the two ends.
 fn ends_of(plan: &Plan, channels: u32) -> Result<Ends<RingLink>, NoMemory>
     ensures new { IfOk result (λ ends. AreNew channels (ring_ends ends)) }
-    ensures numbered { IfOk result (λ ends. AreNumbered plan.now.fail.now ends) }
+    ensures numbered { IfOk result (AreNumbered (settings_of plan.now.fail.now plan.now.slots plan.now.patience)) }
     ensures connected { IfOk result AreConnected }
 {
     let (source_control, dest_control) = pair_of(plan, 0)?;
@@ -144,9 +146,10 @@ impl Wires for RingWires {
         ensures carried { ⟦<RingWires as Wires>⟧.carried self.new ≡ ⟦<RingWires as Wires>⟧.carried self.old }
         // memory alone refuses it
         ensures memory_alone { IsErrOf result ConnectFault.Failed → ⊥ }
-        ensures numbered { IfOk result (λ ends. AreNumbered self.old.fail.items ends) }
+        // each link is made as the wires say, by its number
+        ensures numbered { IfOk result (AreNumbered (wires_settings self.old)) }
         ensures connected { IfOk result AreConnected }
-        ensures fail { self.new.fail.items ≡ self.old.fail.items }
+        ensures settings { wires_settings self.new ≡ wires_settings self.old }
     {
         if self.asked.reserve(1).is_err() {
             return Err(ConnectFault::NoMemory);
@@ -170,7 +173,7 @@ impl Wires for RingWires {
         ensures count { Includes (⟦<RingWires as Wires>⟧.faults self.old) (ends_faults (ring_ends ends))
             (⟦<RingWires as Wires>⟧.faults self.new) }
         ensures asked { ⟦<RingWires as Wires>⟧.asked self.new ≡ ⟦<RingWires as Wires>⟧.asked self.old }
-        ensures fail { self.new.fail.items ≡ self.old.fail.items }
+        ensures settings { wires_settings self.new ≡ wires_settings self.old }
     {
         if let Some(before) = self.back.take() {
             self.faults = self.faults.saturating_add(all_faults(&before));
