@@ -1,12 +1,17 @@
--- A record as the payload of a packet.
-use Rattle.std.specs.Prelude.{ℕ, length}
-use Rattle.vfm_packet.specs.declared.header.Kind.{Kind}
+-- A record as the payload of a packet, and the packet that ends a channel.
+use Rattle.std.specs.Prelude.{ℕ, [], length}
+use Rattle.vfm_packet.specs.declared.header.Header.{Header}
+use Rattle.vfm_packet.specs.declared.header.Kind.TheVariants.{End}
 use Rattle.vfm_packet.specs.Packet.{Packet}
 use Rattle.vfm_record.specs.Record.{Record, spelling}
 
--- the packet of a record: session, kind, stream, index
-abbrev pub packed : ℕ → Kind → ℕ → ℕ → Record → Packet
-packed session kind stream index r = record {
-  head = record { version = 1; kind = kind; session = session; stream = stream; index = index; length = length (spelling r) };
-  payload = spelling r;
+-- the packet of a record: this header, with the record's length, and the record
+abbrev pub packed : Header → Record → Packet
+packed h r = record { head = record h { length = length (spelling r) }; payload = spelling r }
+
+-- the packet that ends a channel of this version and session
+abbrev pub end_of : ℕ → ℕ → Packet
+end_of version session = record {
+  head = record { version = version; kind = End; session = session; stream = 0; index = 0; length = 0 };
+  payload = [];
 }

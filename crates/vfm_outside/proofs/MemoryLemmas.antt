@@ -8,7 +8,7 @@ pub left-given : (bytes lent buf : List ℕ) (at n : ℕ) → lent ≡ bytes →
     → Some (drop at bytes) ≡ Some (take n buf ++ drop (at + n) bytes)
 left-given bytes lent buf at n e given =
     ap Some (sym (take-append-drop n (drop at bytes))
-    ∙ ap (λ front. front ++ drop n (drop at bytes)) (sym (given ∙ ap (λ xs. take n (drop at xs)) e))
+    ∙ ap (λ start. start ++ drop n (drop at bytes)) (sym (given ∙ ap (λ xs. take n (drop at xs)) e))
     ∙ ap (λ back. take n buf ++ back) (drop-drop n at bytes))
 
 -- where nothing was given though something was wanted, nothing is left

@@ -8,7 +8,7 @@ use Rattle.vfm_outside.specs.Told.{told_then, then_told, TellsNone, told_then-to
 pub take-then-take : {T : Type 0} (xs : List T) (i n : ℕ) → take i xs ++ take n (drop i xs) ≡ take (i + n) xs
 take-then-take xs i n =
     let short : i ≤ i + n = omega arith in
-    ap (λ front. front ++ take n (drop i xs)) (sym (take-take i (i + n) xs short))
+    ap (λ start. start ++ take n (drop i xs)) (sym (take-take i (i + n) xs short))
     ∙ ap (λ back. take i (take (i + n) xs) ++ back) (sym (drop-take i n xs))
     ∙ take-append-drop i (take (i + n) xs)
 

@@ -1,5 +1,5 @@
 -- The links of the two ends, and what they report.
-use Rattle.std.specs.Prelude.{ℕ, Bool, List, Option, map}
+use Rattle.std.specs.Prelude.{ℕ, ◌+◌, Bool, List, Option, map, sum_by}
 use Rattle.vfm_outside.specs.declared.wires.Ends.{Ends}
 use Rattle.vfm_outside.specs.Links.{Told, ToldEnds}
 
@@ -21,3 +21,7 @@ ends_told told ends = record {
   dest_control = told ends.dest_control;
   dest = map told ends.dest.items;
 }
+
+-- the sum over the links of the two ends of what this word gives of each
+abbrev pub ends_sum : {L : Type 0} → (L → ℕ) → Ends L → ℕ
+ends_sum f ends = f ends.source_control + sum_by f ends.source.items + (f ends.dest_control + sum_by f ends.dest.items)

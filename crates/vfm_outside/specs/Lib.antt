@@ -1,6 +1,10 @@
 pub mod Carried
 pub mod Counts
 pub mod Links
+pub mod Pieces
+pub mod RingEnds
+pub mod RingSettings
+pub mod Rings
 pub mod Script
 pub mod ScriptEnds
 pub mod Told

@@ -4,9 +4,14 @@
 
 mod beat;
 mod failed;
+mod faults;
+mod inlet;
 mod link;
 mod mem_sink;
 mod mem_source;
+mod piece;
+mod ring_link;
+mod ring_wires;
 mod script;
 mod script_link;
 mod script_wires;
@@ -19,6 +24,8 @@ pub use failed::{Failed, ReadFault};
 pub use link::Link;
 pub use mem_sink::MemSink;
 pub use mem_source::MemSource;
+pub use ring_link::RingLink;
+pub use ring_wires::RingWires;
 pub use script_link::ScriptLink;
 pub use script_wires::ScriptWires;
 pub use sink::{Sink, write_all};

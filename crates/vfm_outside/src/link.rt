@@ -1,6 +1,6 @@
 //! One end of a channel between the two machines.
 
-ghost use Rattle.std.specs.Prelude.{◌≡◌, ℕ, ◌<◌, Bool, List, Option, Ok, length};
+ghost use Rattle.std.specs.Prelude.{◌≡◌, ℕ, ◌<◌, ◌||◌, Bool, List, Option, Ok, is_ok, length};
 ghost use Rattle.vfm_outside.specs.Counts.{CountsFaults};
 ghost use Rattle.vfm_outside.specs.Told.{Takes, Receives};
 ghost use Rattle.vfm_outside.specs.Links.{ended_after};
@@ -10,8 +10,9 @@ use crate::Failed;
 /// One end of a channel, which sends bytes to the other end and receives what that one sends. Nothing ties what one
 /// end received to what the other sent: bytes may be changed, cut or lost on the way.
 ///
-/// The faults of a link are the sum of `failed_out` and `failed_in`.
-pub trait Link: Send {
+/// The faults of a link are the sum of `failed_out` and `failed_in`. A link may be let go of without an answer, so that
+/// a worker can own it.
+pub trait Link: Send + Drop {
     /// How often `send` and `finish` have failed.
     ghost failed_out: { Self → ℕ };
 
@@ -20,6 +21,9 @@ pub trait Link: Send {
 
     /// Whether the end of the channel has been received. Every link reports it.
     ghost ended: { Self → Bool };
+
+    /// Whether `finish` has said that nothing more is sent. Every link reports it.
+    ghost finished: { Self → Bool };
 
     /// The bytes sent so far, where the link reports them.
     ghost sent: { Self → Option (List ℕ) };
@@ -35,7 +39,8 @@ pub trait Link: Send {
         ensures empty { length bytes.now ≡ 0 → result ≡ Ok 0 }
         ensures other_count { failed_in self.new ≡ failed_in self.old }
         ensures received { received self.new ≡ received self.old }
-        ensures ended { ended self.new ≡ ended self.old };
+        ensures ended { ended self.new ≡ ended self.old }
+        ensures finished { finished self.new ≡ finished self.old };
 
     /// Receives bytes at the start of `buf`, and answers how many. With a buffer that isn't empty, 0 is the end of
     /// the channel. What stands in `buf` after them is left open, and after `Failed` all of it. An empty buffer
@@ -46,7 +51,8 @@ pub trait Link: Send {
         ensures empty { length buf.old ≡ 0 → result ≡ Ok 0 }
         ensures ended { ended self.new ≡ ended_after result (length buf.old) (ended self.old) }
         ensures other_count { failed_out self.new ≡ failed_out self.old }
-        ensures sent { sent self.new ≡ sent self.old };
+        ensures sent { sent self.new ≡ sent self.old }
+        ensures finished { finished self.new ≡ finished self.old };
 
     /// Says to the other end that nothing more is sent.
     fn finish(&mut self) -> Result<(), Failed>
@@ -54,5 +60,6 @@ pub trait Link: Send {
         ensures other_count { failed_in self.new ≡ failed_in self.old }
         ensures sent { sent self.new ≡ sent self.old }
         ensures received { received self.new ≡ received self.old }
-        ensures ended { ended self.new ≡ ended self.old };
+        ensures ended { ended self.new ≡ ended self.old }
+        ensures finished { finished self.new ≡ (finished self.old || is_ok result) };
 }

@@ -6,6 +6,7 @@ ghost use Rattle.vfm_outside.specs.Told.{Takes, Receives};
 ghost use Rattle.vfm_outside.specs.Links.{ended_after};
 ghost use Rattle.vfm_outside.specs.Script.{new_plan, is_failing, after_call, after_moving, answer_of};
 
+use crate::faults::Counting;
 use crate::script::{Script, give};
 use crate::{Failed, Link};
 use std::alloc::Global;
@@ -23,6 +24,7 @@ pub struct ScriptLink {
     failed_out: u64,
     failed_in: u64,
     ended: bool,
+    finished: bool,
     ghost in_range: { at ≤ vec_len inbox },
     ghost in_room: { vec_len sent ≤ room },
     ghost has_room: { room ≤ vec_capacity sent },
@@ -43,6 +45,7 @@ impl ScriptLink {
         ensures sent { IfOk result (λ link. ⟦<ScriptLink as Link>⟧.sent link ≡ Some []) }
         ensures received { IfOk result (λ link. ⟦<ScriptLink as Link>⟧.received link ≡ Some []) }
         ensures ended { IfOk result (λ link. ⟦<ScriptLink as Link>⟧.ended link ≡ false) }
+        ensures finished { IfOk result (λ link. ⟦<ScriptLink as Link>⟧.finished link ≡ false) }
         ensures faults { IfOk result (λ link. (⟦<ScriptLink as Link>⟧.failed_out link ≡ 0) × (⟦<ScriptLink as Link>⟧.failed_in link ≡ 0)) }
         ensures script { IfOk result (λ link. (link.inbox.items ≡ inbox.items) × (link.room ≡ room) × (link.script ≡ new_plan fail.items most)) }
     {
@@ -55,6 +58,7 @@ impl ScriptLink {
             failed_out: 0,
             failed_in: 0,
             ended: false,
+            finished: false,
         })
     }
 
@@ -79,11 +83,26 @@ impl ScriptLink {
         self.ended
     }
 
+    /// Whether `finish` has said that nothing more is sent.
+    pub fn has_finished(&self) -> bool
+        ensures { result ≡ ⟦<ScriptLink as Link>⟧.finished self.now }
+    {
+        self.finished
+    }
+
     /// How often a call has failed, of both directions.
     pub fn faults(&self) -> u64
         ensures { result ≡ counted (⟦<ScriptLink as Link>⟧.failed_out self.now + ⟦<ScriptLink as Link>⟧.failed_in self.now) }
     {
         self.failed_out.saturating_add(self.failed_in)
+    }
+}
+
+impl Counting for ScriptLink {
+    ghost faults = { λ l. l.failed_out + l.failed_in };
+
+    fn fault_count(&self) -> u64 {
+        self.faults()
     }
 }
 
@@ -93,6 +112,8 @@ impl Link for ScriptLink {
     ghost failed_in = { λ l. l.failed_in };
 
     ghost ended = { λ l. l.ended };
+
+    ghost finished = { λ l. l.finished };
 
     ghost sent = { λ l. Some l.sent.items };
 
@@ -105,6 +126,7 @@ impl Link for ScriptLink {
         ensures other_count { self.new.failed_in ≡ self.old.failed_in }
         ensures received { ⟦<ScriptLink as Link>⟧.received self.new ≡ ⟦<ScriptLink as Link>⟧.received self.old }
         ensures ended { self.new.ended ≡ self.old.ended }
+        ensures finished { self.new.finished ≡ self.old.finished }
         ensures answer { let n = min (length bytes.now) self.old.script.most in
             result ≡ answer_of (length bytes.now) (is_failing self.old.script || nat_lt self.old.room (vec_len self.old.sent + n)) n }
         ensures script { self.new.script ≡ after_moving (length bytes.now) self.old.script }
@@ -131,6 +153,7 @@ impl Link for ScriptLink {
         ensures ended { self.new.ended ≡ ended_after result (length buf.old) self.old.ended }
         ensures other_count { self.new.failed_out ≡ self.old.failed_out }
         ensures sent { ⟦<ScriptLink as Link>⟧.sent self.new ≡ ⟦<ScriptLink as Link>⟧.sent self.old }
+        ensures finished { self.new.finished ≡ self.old.finished }
         ensures answer { result ≡ answer_of (length buf.old) (is_failing self.old.script)
             (min (min (length buf.old) self.old.script.most) (vec_len self.old.inbox - self.old.at)) }
         ensures script { self.new.script ≡ after_moving (length buf.old) self.old.script }
@@ -159,6 +182,7 @@ impl Link for ScriptLink {
         ensures sent { ⟦<ScriptLink as Link>⟧.sent self.new ≡ ⟦<ScriptLink as Link>⟧.sent self.old }
         ensures received { ⟦<ScriptLink as Link>⟧.received self.new ≡ ⟦<ScriptLink as Link>⟧.received self.old }
         ensures ended { self.new.ended ≡ self.old.ended }
+        ensures finished { self.new.finished ≡ (self.old.finished || is_ok result) }
         ensures answer { is_ok result ≡ not (is_failing self.old.script) }
         ensures script { self.new.script ≡ after_call self.old.script }
         ensures room { self.new.room ≡ self.old.room }
@@ -168,6 +192,7 @@ impl Link for ScriptLink {
             self.failed_out = self.failed_out.saturating_add(1);
             return Err(Failed);
         }
+        self.finished = true;
         Ok(())
     }
 }

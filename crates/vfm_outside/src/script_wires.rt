@@ -6,8 +6,9 @@ ghost use Rattle.std.proofs.Props.{props};
 ghost use Rattle.vfm_outside.specs.Counts.{Rose, Includes, counted};
 ghost use Rattle.vfm_outside.specs.Told.{told_then};
 ghost use Rattle.vfm_outside.specs.Links.{AreNew, ends_faults};
-ghost use Rattle.vfm_outside.specs.ScriptEnds.{script_ends, script_faults, EndsAreNew, held_faults};
+ghost use Rattle.vfm_outside.specs.ScriptEnds.{script_ends, EndsAreNew, held_faults};
 
+use crate::faults::all_faults;
 use crate::{ConnectFault, Ends, ScriptLink, Wires};
 use std::alloc::Global;
 
@@ -50,32 +51,6 @@ fn offers(ends: &Option<Ends<ScriptLink>>, channels: u32) -> bool
     }
 }
 
-// The faults of a row of links.
-fn row_faults(links: &[ScriptLink]) -> u64
-    ensures { result ≡ counted (sum_by script_faults links.now) }
-{
-    let mut faults: u64 = 0;
-    for link in links {
-        faults = faults.saturating_add(link.faults());
-    }
-    faults
-}
-
-// The faults of all the links of the two ends.
-fn all_faults(ends: &Ends<ScriptLink>) -> u64
-    ensures { result ≡ counted (ends_faults (script_ends ends.now)) }
-{
-    let source = ends
-        .source_control
-        .faults()
-        .saturating_add(row_faults(&ends.source));
-    let dest = ends
-        .dest_control
-        .faults()
-        .saturating_add(row_faults(&ends.dest));
-    source.saturating_add(dest)
-}
-
 impl Wires for ScriptWires {
     type L = ScriptLink;
 
@@ -113,6 +88,7 @@ impl Wires for ScriptWires {
         Ok(self.ends.take().unwrap())
     }
 
+    #[tactic(auto, using(crate::proofs::EndsLemmas::told_ends))]
     fn back(&mut self, ends: Ends<ScriptLink>)
         ensures carried { ⟦<ScriptWires as Wires>⟧.carried self.new ≡ Some (script_ends ends) }
         ensures count { Includes (⟦<ScriptWires as Wires>⟧.faults self.old) (ends_faults (script_ends ends))

@@ -1,12 +1,12 @@
 //! What no clause says: that the calls succeed with ample memory, and worked cases of the objects in memory.
 
-ghost use Rattle.std.specs.Prelude.{IfOk};
+ghost use Rattle.std.specs.Prelude.{◌<◌, IfOk};
 ghost use Rattle.vfm_outside.specs.Links.{IsNew};
 ghost use Rattle.vfm_outside.specs.ScriptEnds.{script_told};
 
 use crate::{
-    Beat, ConnectFault, Ends, Failed, Link, MemSink, MemSource, NoBeat, ReadFault, ScriptLink,
-    ScriptWires, Sink, Wires, read_up_to, write_all,
+    Beat, ConnectFault, Ends, Failed, Link, MemSink, MemSource, NoBeat, ReadFault, RingLink,
+    RingWires, ScriptLink, ScriptWires, Sink, Wires, read_up_to, write_all,
 };
 use std::alloc::Global;
 use std::test::Fail;
@@ -36,7 +36,7 @@ fn a_read_that_fails_ends_the_reading(rt: HostRuntime) -> Result<(), Fail> {
 }
 
 #[test]
-fn a_sink_takes_all_or_a_front(rt: HostRuntime) -> Result<(), Fail> {
+fn a_sink_takes_all_or_a_prefix(rt: HostRuntime) -> Result<(), Fail> {
     let alloc = rt.alloc();
     let mut sink = MemSink::of(alloc, 11, [4u32].to_vec(alloc)?, 2)
         .ok()
@@ -111,4 +111,131 @@ fn shared<B: Beat + Sync>(beat: &B) {
 #[test]
 fn a_beat_may_be_shared() {
     shared(&NoBeat);
+}
+
+// The links of one channel over rings of so many slots, which wait for nothing.
+fn ring_ends(alloc: Global, slots: usize, fail: &[(u32, u32)]) -> Result<Ends<RingLink>, Fail>
+    requires { 0 < slots }
+{
+    let mut pairs = Vec::new(alloc);
+    for pair in fail {
+        pairs.push(*pair)?;
+    }
+    let mut wires = RingWires::of(alloc, slots, 0, pairs);
+    Ok(wires.connect(1).ok().ok_or("no memory")?)
+}
+
+// The two ends of the one channel.
+fn channel_of(ends: Ends<RingLink>) -> Result<(RingLink, RingLink), Fail> {
+    let Ends {
+        source_control: _,
+        mut source,
+        dest_control: _,
+        mut dest,
+    } = ends;
+    let near = source.pop().ok_or("no source")?;
+    let far = dest.pop().ok_or("no destination")?;
+    Ok((near, far))
+}
+
+#[test]
+fn what_one_end_of_a_ring_sends_the_other_receives(rt: HostRuntime) -> Result<(), Fail> {
+    let alloc = rt.alloc();
+    let (mut near, mut far) = channel_of(ring_ends(alloc, 4, &[])?)?;
+    assert_eq!(rt; near.send(&TEXT), Ok(8));
+    assert_eq!(rt; far.send(&[9]), Ok(1));
+    assert_eq!(rt; near.send(&[]), Ok(0));
+    assert_eq!(rt; near.finish(), Ok(()));
+    assert!(rt; near.has_finished());
+    let mut buf = [0u8; 5];
+    assert_eq!(rt; far.recv(&mut buf), Ok(5));
+    assert_eq!(rt; buf, [1, 2, 3, 4, 5]);
+    assert_eq!(rt; far.recv(&mut []), Ok(0));
+    assert!(rt; !far.has_ended());
+    assert_eq!(rt; far.recv(&mut buf), Ok(3));
+    assert_eq!(rt; buf, [6, 7, 8, 4, 5]);
+    // the end comes again at each receipt
+    assert_eq!(rt; far.recv(&mut buf), Ok(0));
+    assert_eq!(rt; far.recv(&mut buf), Ok(0));
+    assert!(rt; far.has_ended());
+    assert_eq!(rt; near.recv(&mut buf), Ok(1));
+    assert_eq!(rt; buf[0], 9);
+    assert_eq!(rt; near.recv(&mut buf), Err(Failed));
+    assert_eq!(rt; (near.failed_out(), near.failed_in()), (0, 1));
+    assert_eq!(rt; (far.failed_out(), far.failed_in()), (0, 0));
+    Ok(())
+}
+
+#[test]
+fn a_ring_of_one_slot_takes_one_piece(rt: HostRuntime) -> Result<(), Fail> {
+    let alloc = rt.alloc();
+    for (len, went) in [(1, 1), (255, 255), (256, 256), (257, 256), (65_576, 256)] {
+        let (mut near, mut far) = channel_of(ring_ends(alloc, 1, &[])?)?;
+        let bytes = vec![in alloc; 7u8; len]?;
+        assert_eq!(rt; near.send(bytes.as_slice()), Ok(went));
+        assert_eq!(rt; near.send(bytes.as_slice()), Err(Failed));
+        assert_eq!(rt; near.failed_out(), 1);
+        let mut buf = [0u8; 300];
+        assert_eq!(rt; far.recv(&mut buf), Ok(went));
+        assert!(rt; buf.iter().take(went).all(|b| *b == 7));
+        assert!(rt; buf.iter().skip(went).all(|b| *b == 0));
+        assert_eq!(rt; near.finish(), Ok(()));
+        assert_eq!(rt; near.finish(), Err(Failed));
+        assert_eq!(rt; near.failed_out(), 2);
+        assert_eq!(rt; far.recv(&mut buf), Ok(0));
+    }
+    Ok(())
+}
+
+#[test]
+fn a_large_slice_goes_in_as_many_pieces_as_there_is_room_for(rt: HostRuntime) -> Result<(), Fail> {
+    let alloc = rt.alloc();
+    let (mut near, mut far) = channel_of(ring_ends(alloc, 4, &[])?)?;
+    let bytes = vec![in alloc; 7u8; 2000]?;
+    assert_eq!(rt; near.send(bytes.as_slice()), Ok(1024));
+    let mut buf = [0u8; 256];
+    for _ in 0..4 {
+        assert_eq!(rt; far.recv(&mut buf), Ok(256));
+    }
+    assert_eq!(rt; far.recv(&mut buf), Err(Failed));
+    assert_eq!(rt; far.failed_in(), 1);
+    assert_eq!(rt; near.failed_out(), 0);
+    Ok(())
+}
+
+#[test]
+fn chosen_calls_of_chosen_links_fail(rt: HostRuntime) -> Result<(), Fail> {
+    let alloc = rt.alloc();
+    // source control's call 0, destination control's 1, the source channel's 1 and the destination channel's 0
+    let mut ends = ring_ends(alloc, 4, &[(0, 0), (1, 1), (2, 1), (3, 0)])?;
+    let mut buf = [0u8; 8];
+    assert_eq!(rt; ends.source_control.send(&[1]), Err(Failed));
+    assert_eq!(rt; ends.source_control.send(&[2]), Ok(1));
+    assert_eq!(rt; ends.dest_control.recv(&mut buf), Ok(1));
+    assert_eq!(rt; buf[0], 2);
+    assert_eq!(rt; ends.dest_control.finish(), Err(Failed));
+    assert!(rt; !ends.dest_control.has_finished());
+    assert_eq!(rt; ends.dest_control.finish(), Ok(()));
+    let (mut near, mut far) = channel_of(ends)?;
+    assert_eq!(rt; near.send(&[3]), Ok(1));
+    assert_eq!(rt; near.send(&[4]), Err(Failed));
+    assert_eq!(rt; near.send(&[5]), Ok(1));
+    assert_eq!(rt; far.recv(&mut buf), Err(Failed));
+    assert_eq!(rt; far.recv(&mut buf), Ok(1));
+    assert_eq!(rt; buf[0], 3);
+    assert_eq!(rt; far.recv(&mut buf), Ok(1));
+    assert_eq!(rt; buf[0], 5);
+    Ok(())
+}
+
+#[test]
+fn ring_wires_connect_again(rt: HostRuntime) -> Result<(), Fail> {
+    let mut wires = RingWires::of(rt.alloc(), 1, 3, Vec::new(rt.alloc()));
+    let ends = wires.connect(0).ok().ok_or("no memory")?;
+    assert_eq!(rt; ends.source.len(), 0);
+    wires.back(ends);
+    let ends = wires.connect(8).ok().ok_or("no memory")?;
+    assert_eq!(rt; ends.dest.len(), 8);
+    wires.back(ends);
+    Ok(())
 }

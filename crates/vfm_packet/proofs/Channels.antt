@@ -1,5 +1,5 @@
 -- Whole channels: each has exactly one reading, which goes on from place to place.
-use Rattle.std.proofs.Common.{◌≡◌, ℕ, zero, suc, ◌+◌, ◌<◌, ◌≤◌, Bool, true, false, List, [], ◌∷◌, ◌++◌, length, drop, Option, Some, None, refl, sym, ap, subst, ◌∙◌, inl, inr, append_assoc, zero-add, arith}
+use Rattle.std.proofs.Common.{◌≡◌, ℕ, zero, suc, ◌+◌, ◌<◌, ◌≤◌, Bool, true, false, cond, List, [], ◌∷◌, ◌++◌, length, drop, Option, Some, None, refl, sym, ap, subst, ◌∙◌, inl, inr, append_assoc, zero-add, arith}
 use Rattle.std.specs.Prelude.{IsTrue}
 use Rattle.std.specs.List.{AllByRecursion}
 use Rattle.std.proofs.lemmas.Bool.{cases_lt, lt-ltb, le-ltb}
@@ -9,33 +9,41 @@ use Rattle.vfm_packet.specs.declared.header.Kind.{Kind}
 use Rattle.vfm_packet.specs.declared.header.Kind.TheVariants.{Data, Config, End, Abort}
 use Rattle.vfm_packet.specs.declared.answer.Expect.{Expect}
 use Rattle.vfm_packet.specs.declared.answer.Cause.{Cause}
+use Rattle.vfm_packet.specs.declared.answer.Cause.TheVariants.{Corrupt}
 use Rattle.vfm_packet.specs.declared.answer.Decoded.{Decoded}
 use Rattle.vfm_packet.specs.declared.answer.Decoded.TheVariants as answers
 use Rattle.vfm_packet.specs.Header.{carries, HasShape}
 use Rattle.vfm_packet.specs.Sound.{head_at, head_fault}
 use Rattle.vfm_packet.specs.Packet.{Packet, packet_at, packet_bytes, packet_size, seal_len, IsSoundPacket}
-use Rattle.vfm_packet.specs.Answer.{decoded, decoded_behind, IsPartial}
+use Rattle.vfm_packet.specs.Answer.{is_sealed, decoded, decoded_head, decoded_after, IsPartial}
 use Rattle.vfm_packet.specs.Channel.{IsCarried, all_bytes, Stands, mark_size}
 use Rattle.vfm_packet.specs.Refusal.{Refusal, Bad, Aborted, Truncated, NoEnd, AfterEnd, TooLong, is_over, Says, IsReading}
-use Rattle.vfm_packet.specs.Reading.{Reading, ends, brings, brings_all, unfinished, behind_end, on_packet, on_answer, reading_of, reading_at, reading_within}
-use Rattle.vfm_packet.proofs.Decoding.{partial_reads, bad_reads}
-use Rattle.vfm_packet.proofs.Packets.{length-packet_bytes, packet_again, packet_at-packet_bytes, behind_packet}
+use Rattle.vfm_packet.specs.Reading.{Reading, ends, brings, brings_all, unfinished, after_end, on_packet, on_answer, reading_of, reading_at, reading_within}
+use Rattle.vfm_packet.proofs.Decoding.{partial_reads, refused_reads}
+use Rattle.vfm_packet.proofs.Packets.{length-packet_bytes, packet_again, packet_at-packet_bytes, after_packet}
 
 -- ---- one step of a reading
 
 -- what follows a packet is shorter
-behind_size : (o : Option Cause) (bytes : List ℕ) (h : Header) (used : ℕ) → decoded_behind o bytes ≡ answers.Packet h used → 40 ≤ used
-behind_size (Some cause) bytes h used is = absurd cc
-behind_size None bytes h used is =
-    elim (cases_lt (length bytes) (packet_size (head_at bytes))) [
+sealed_size : (b : Bool) (h g : Header) (used : ℕ) → cond b (answers.Packet h (packet_size h)) (answers.Bad Corrupt) ≡ answers.Packet g used → 40 ≤ used
+sealed_size true h g used is = let size : packet_size h ≡ used = cc in omega (arith, size)
+sealed_size false h g used is = absurd cc
+
+head_size : (h g : Header) (bytes : List ℕ) (used : ℕ) → decoded_head h bytes ≡ answers.Packet g used → 40 ≤ used
+head_size h g bytes used is =
+    elim (cases_lt (length bytes) (packet_size h)) [
       | inl short ↦
-          let more : decoded_behind None bytes ≡ answers.More = rw (lt-ltb (length bytes) (packet_size (head_at bytes)) short) refl in
+          let more : decoded_head h bytes ≡ answers.More = rw (lt-ltb (length bytes) (packet_size h) short) refl in
           absurd cc
       | inr whole ↦
-          let there : decoded_behind None bytes ≡ answers.Packet (head_at bytes) (packet_size (head_at bytes)) = rw (le-ltb (length bytes) (packet_size (head_at bytes)) whole) refl in
-          let size : packet_size (head_at bytes) ≡ used = cc in
-          omega (arith, size)
+          let there : decoded_head h bytes ≡ cond (is_sealed h bytes) (answers.Packet h (packet_size h)) (answers.Bad Corrupt) =
+          rw (le-ltb (length bytes) (packet_size h) whole) refl in
+          sealed_size (is_sealed h bytes) h g used (sym there ∙ is)
     ]
+
+after_size : (o : Option Cause) (bytes : List ℕ) (h : Header) (used : ℕ) → decoded_after o bytes ≡ answers.Packet h used → 40 ≤ used
+after_size (Some cause) bytes h used is = absurd cc
+after_size None bytes h used is = head_size (head_at bytes) h bytes used is
 
 packet_long : (e : Expect) (bytes : List ℕ) (h : Header) (used : ℕ) → decoded e bytes ≡ answers.Packet h used → 40 ≤ used
 unfolding decoded
@@ -45,8 +53,8 @@ packet_long e bytes h used is =
           let more : decoded e bytes ≡ answers.More = rw (lt-ltb (length bytes) 40 few) refl in
           absurd cc
       | inr long ↦
-          let there : decoded e bytes ≡ decoded_behind (head_fault e bytes) bytes = rw (le-ltb (length bytes) 40 long) refl in
-          behind_size (head_fault e bytes) bytes h used (sym there ∙ is)
+          let there : decoded e bytes ≡ decoded_after (head_fault e bytes) bytes = rw (le-ltb (length bytes) 40 long) refl in
+          after_size (head_fault e bytes) bytes h used (sym there ∙ is)
     ]
 
 same_packet : (kind : Kind) (limit : ℕ) (over : Bool) (place : ℕ) (rest : List ℕ) (h : Header) (used : ℕ) (f g : ℕ → List ℕ → Reading)
@@ -114,7 +122,7 @@ step_carried limit e over place rest h used is c =
 
 pub step_end : (limit : ℕ) (e : Expect) (over : Bool) (place : ℕ) (rest : List ℕ) (h : Header) (used : ℕ)
     → decoded e rest ≡ answers.Packet h used → h.kind ≡ End
-    → reading_at limit e over place rest ≡ ends (behind_end limit over (place + used) (drop used rest))
+    → reading_at limit e over place rest ≡ ends (after_end limit over (place + used) (drop used rest))
 step_end limit e over place rest h used is kind =
     step limit e over place rest
     ∙ ap (λ (d : Decoded). on_answer d limit over place rest (λ next after. reading_at limit e over next after)) is
@@ -154,7 +162,7 @@ goes_on (p ∷ ps) limit e over place rest each =
     ∙ step_carried limit e over place (packet_bytes p ++ (all_bytes ps ++ rest)) p.head (packet_size p.head) (packet_again e p (all_bytes ps ++ rest) is) each.0.carries
     ∙ ap (λ (q : Packet). brings q (reading_at limit e over (place + packet_size p.head) (drop (packet_size p.head) (packet_bytes p ++ (all_bytes ps ++ rest)))))
     (packet_at-packet_bytes p (all_bytes ps ++ rest) is.len)
-    ∙ ap (λ (l : List ℕ). brings p (reading_at limit e over (place + packet_size p.head) l)) (behind_packet p (all_bytes ps ++ rest) is.len)
+    ∙ ap (λ (l : List ℕ). brings p (reading_at limit e over (place + packet_size p.head) l)) (after_packet p (all_bytes ps ++ rest) is.len)
     ∙ ap (brings p) (goes_on ps limit e over (place + packet_size p.head) rest each.1)
     ∙ ap (λ (n : ℕ). brings p (brings_all ps (reading_at limit e over n rest))) next
 
@@ -170,31 +178,31 @@ stands_reads : (e : Expect) (kind : Kind) (rest more : List ℕ) (there : Stands
     → (decoded e rest ≡ answers.Packet there.packet.head (packet_size there.packet.head)) × (drop (packet_size there.packet.head) rest ≡ more)
 stands_reads e kind rest more there =
     let p = there.packet in (
-      ap (decoded e) there.spelled ∙ packet_again e there.packet more there.sound,
-      ap (λ (l : List ℕ). drop (packet_size there.packet.head) l) there.spelled ∙ behind_packet there.packet more there.sound.len,
+      ap (decoded e) there.encoded ∙ packet_again e there.packet more there.sound,
+      ap (λ (l : List ℕ). drop (packet_size there.packet.head) l) there.encoded ∙ after_packet there.packet more there.sound.len,
     )
 
 end_reads : (limit : ℕ) (e : Expect) (over : Bool) (place : ℕ) (rest more : List ℕ) → Stands e End rest more
-    → reading_at limit e over place rest ≡ ends (behind_end limit over (place + mark_size e) more)
+    → reading_at limit e over place rest ≡ ends (after_end limit over (place + mark_size e) more)
 end_reads limit e over place rest more there =
     let h = there.packet.head in
     let facts = stands_reads e End rest more there in
     let size = mark_len End e there.packet refl there.of_kind there.sound in
     step_end limit e over place rest there.packet.head (packet_size there.packet.head) facts.0 there.of_kind
-    ∙ ap (λ (l : List ℕ). ends (behind_end limit over (place + packet_size there.packet.head) l)) facts.1
-    ∙ ap (λ (n : ℕ). ends (behind_end limit over (place + n) more)) size
+    ∙ ap (λ (l : List ℕ). ends (after_end limit over (place + packet_size there.packet.head) l)) facts.1
+    ∙ ap (λ (n : ℕ). ends (after_end limit over (place + n) more)) size
 
 unfinished_some : (place : ℕ) (rest : List ℕ) → 0 < length rest → unfinished false place rest ≡ Some (Truncated place)
 unfinished_some place [] some = absurd (omega arith)
 unfinished_some place (b ∷ rest) some = refl
 
-behind_byte : (limit : ℕ) (over : Bool) (place byte : ℕ) (more : List ℕ) → place < limit → behind_end limit over place (byte ∷ more) ≡ Some (AfterEnd place)
-behind_byte limit true place byte more below = rw (lt-ltb place limit below) refl
-behind_byte limit false place byte more below = rw (lt-ltb place limit below) refl
+after_byte : (limit : ℕ) (over : Bool) (place byte : ℕ) (more : List ℕ) → place < limit → after_end limit over place (byte ∷ more) ≡ Some (AfterEnd place)
+after_byte limit true place byte more below = rw (lt-ltb place limit below) refl
+after_byte limit false place byte more below = rw (lt-ltb place limit below) refl
 
-behind_limit : (limit place : ℕ) (more : List ℕ) → limit ≤ place → behind_end limit true place more ≡ Some TooLong
-behind_limit limit place [] past = refl
-behind_limit limit place (b ∷ more) past = rw (le-ltb place limit past) refl
+after_limit : (limit place : ℕ) (more : List ℕ) → limit ≤ place → after_end limit true place more ≡ Some TooLong
+after_limit limit place [] past = refl
+after_limit limit place (b ∷ more) past = rw (le-ltb place limit past) refl
 
 more_reads : (limit : ℕ) (e : Expect) (over now : Bool) (place : ℕ) (rest : List ℕ) → over ≡ now → IsPartial e rest
     → reading_at limit e over place rest ≡ ends (unfinished now place rest)
@@ -204,9 +212,9 @@ more_reads limit e over now place rest is partial =
 pub says_reads : (refusal : Option Refusal) (limit : ℕ) (e : Expect) (over : Bool) (place : ℕ) (rest : List ℕ)
     → Says limit e over place rest refusal → reading_at limit e over place rest ≡ ends refusal
 says_reads None limit e over place rest says =
-    end_reads limit e over place rest [] says.1 ∙ ap (λ (o : Bool). ends (behind_end limit o (place + mark_size e) [])) says.0
+    end_reads limit e over place rest [] says.1 ∙ ap (λ (o : Bool). ends (after_end limit o (place + mark_size e) [])) says.0
 says_reads (Some (Bad at cause)) limit e over place rest says =
-    step_bad limit e over place rest cause (bad_reads e rest cause says.1 says.2) ∙ ap (λ (p : ℕ). ends (Some (Bad p cause))) (sym says.0)
+    step_bad limit e over place rest cause (refused_reads e rest cause says.1) ∙ ap (λ (p : ℕ). ends (Some (Bad p cause))) (sym says.0)
 says_reads (Some (Aborted at)) limit e over place rest says =
     let there = says.1.1 in
     step_abort limit e over place rest there.packet.head (packet_size there.packet.head) (stands_reads e Abort rest says.1.0 there).0 there.of_kind
@@ -219,15 +227,15 @@ says_reads (Some (NoEnd at)) limit e over place rest says =
 says_reads (Some (AfterEnd at)) limit e over place rest says =
     let below : place + mark_size e < limit = omega (arith, says.0, says.1) in
     end_reads limit e over place rest (says.2.0 ∷ says.2.1) says.2.2
-    ∙ ap ends (behind_byte limit over (place + mark_size e) says.2.0 says.2.1 below)
+    ∙ ap ends (after_byte limit over (place + mark_size e) says.2.0 says.2.1 below)
     ∙ ap (λ (p : ℕ). ends (Some (AfterEnd p))) (sym says.0)
 says_reads (Some TooLong) limit e over place rest says =
     elim says.1 [
       | inl partial ↦ more_reads limit e over true place rest says.0 partial
       | inr past ↦
           end_reads limit e over place rest past.0 past.1
-          ∙ ap (λ (o : Bool). ends (behind_end limit o (place + mark_size e) past.0)) says.0
-          ∙ ap ends (behind_limit limit (place + mark_size e) past.0 past.2)
+          ∙ ap (λ (o : Bool). ends (after_end limit o (place + mark_size e) past.0)) says.0
+          ∙ ap ends (after_limit limit (place + mark_size e) past.0 past.2)
     ]
 
 -- the one reading
@@ -235,7 +243,7 @@ pub is_the_reading : (limit : ℕ) (e : Expect) (bytes : List ℕ) (packets : Li
     → IsReading limit e bytes packets refusal → reading_within limit e bytes ≡ record { packets = packets; refusal = refusal }
 is_the_reading limit e bytes packets refusal is =
     let over = is_over limit bytes in
-    ap (λ (l : List ℕ). reading_at limit e (is_over limit bytes) 0 l) is.spelled
+    ap (λ (l : List ℕ). reading_at limit e (is_over limit bytes) 0 l) is.encoded
     ∙ goes_on packets limit e (is_over limit bytes) 0 is.rest is.each
     ∙ ap (λ (n : ℕ). brings_all packets (reading_at limit e (is_over limit bytes) n is.rest)) (zero-add (length (all_bytes packets)))
     ∙ ap (brings_all packets) (says_reads refusal limit e (is_over limit bytes) (length (all_bytes packets)) is.rest is.says)

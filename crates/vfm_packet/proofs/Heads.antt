@@ -1,5 +1,5 @@
--- A header that is spelled is read again, and forty bytes that pass the tests spell a sound header.
-use Rattle.std.proofs.Common.{◌≡◌, ℕ, ◌^◌, ◌<◌, ◌≤◌, Bool, true, false, cond, List, [], ◌∷◌, ◌++◌, length, take, drop, Option, Some, None, refl, sym, ap, ◌∙◌, inl, inr, arith}
+-- A header that is encoded is read again, and forty bytes that pass the tests encode a sound header.
+use Rattle.std.proofs.Common.{◌≡◌, ℕ, ◌^◌, ◌<◌, ◌≤◌, Bool, true, false, cond, List, [], ◌∷◌, ◌++◌, length, take, drop, Option, Some, None, refl, sym, ap, subst, ◌∙◌, inl, inr, arith}
 use Rattle.std.specs.Prelude.{IsTrue, is_some, unwrap_or}
 use Rattle.std.specs.List.{AllByRecursion}
 use Rattle.std.specs.Int.{w16, w32, w64, to_be_bytes}
@@ -10,7 +10,7 @@ use Rattle.vfm_packet.specs.declared.header.Kind.{Kind}
 use Rattle.vfm_packet.specs.declared.header.Kind.TheVariants.{Data, Config, End, Abort}
 use Rattle.vfm_packet.specs.declared.answer.Expect.{Expect}
 use Rattle.vfm_packet.specs.declared.answer.Cause.{Cause}
-use Rattle.vfm_packet.specs.Header.{IsBytes, kind_number, kind_of_number, carries, head_bytes, HasShape, IsHeader}
+use Rattle.vfm_packet.specs.Header.{IsBytes, kind_number, kind_of_number, carries, head_bytes, HasShape, IsVersion, IsHeader}
 use Rattle.vfm_packet.specs.Sound.{IsSound, word_at, kind_at, head_at, knows_stream, has_length, has_zeros, first_failed, head_tests, head_fault}
 use Rattle.vfm_packet.proofs.Words.{word_16, word_32, word_64, magic_of, version_of, kind_of, session_of, stream_of, index_of, length_of, spare_high_of, spare_low_of}
 
@@ -47,6 +47,10 @@ kind_again Config = refl
 kind_again End = refl
 kind_again Abort = refl
 
+-- a version fits its field
+version_below : (version : ℕ) → IsVersion version → version < 2 ^ 16
+version_below version is = omega (arith, is.1)
+
 -- a header's length fits its field
 length_below : (b : Bool) (h : Header) → HasShape b h → h.length < 2 ^ 32
 length_below true h shape = omega (arith, shape.1)
@@ -79,11 +83,11 @@ shape_from false h len zeros =
     let first = and_parts _ _ parts.0 in
     (eqb-true _ _ first.0, eqb-true _ _ first.1, eqb-true _ _ parts.1)
 
--- ---- what is spelled is read
+-- ---- what is encoded is read
 
 pub head_at-head_bytes : (h : Header) (rest : List ℕ) → IsHeader h → head_at (head_bytes h ++ rest) ≡ h
 head_at-head_bytes h rest is =
-    let v = version_of h rest is.version in
+    let v = version_of h rest (version_below h.version is.version) in
     let k = kind_of h rest (kind_below h.kind) in
     let again = kind_again h.kind in
     let s = session_of h rest is.session in
@@ -121,7 +125,7 @@ no_fault e h rest is =
     ap (λ (k : Header). first_failed (head_tests e (head_bytes h ++ rest) k)) (head_at-head_bytes h rest is.header)
     ∙ first_failed-held (head_tests e (head_bytes h ++ rest) h) tests
 
--- ---- what passes the tests is spelled
+-- ---- what passes the tests is encoded
 
 kind_from : (n : ℕ) → is_some (kind_of_number n) ≡ true → kind_number (unwrap_or (kind_of_number n) Abort) ≡ n
 kind_from n e =
@@ -150,13 +154,13 @@ fields : (l : List ℕ) → take 40 l ≡
 fields l = rw (take-add 36 4 l, take-add 28 8 l, take-add 24 4 l, take-add 20 4 l, take-add 16 4 l, take-add 8 8 l, take-add 6 2 l, take-add 4 2 l) refl
 
 -- the forty bytes of a header, field by field
-spelled_by : (l : List ℕ) (h : Header)
+encoded_by : (l : List ℕ) (h : Header)
     → take 4 (drop 0 l) ≡ to_be_bytes w32 0x56464d44 → take 2 (drop 4 l) ≡ to_be_bytes w16 h.version → take 2 (drop 6 l) ≡ to_be_bytes w16 (kind_number h.kind)
     → take 8 (drop 8 l) ≡ to_be_bytes w64 h.session → take 4 (drop 16 l) ≡ to_be_bytes w32 h.stream → take 4 (drop 20 l) ≡ to_be_bytes w32 h.index
     → take 4 (drop 24 l) ≡ to_be_bytes w32 h.length → take 8 (drop 28 l) ≡ to_be_bytes w64 0 → take 4 (drop 36 l) ≡ to_be_bytes w32 0
     → take 40 l ≡ head_bytes h
 unfolding head_bytes
-spelled_by l h m v k s t i n z y = fields l ∙ rw (m, v, k, s, t, i, n, z, y) refl
+encoded_by l h m v k s t i n z y = fields l ∙ rw (m, v, k, s, t, i, n, z, y) refl
 
 pub sound_when : (e : Expect) (bytes : List ℕ) → IsBytes bytes → 40 ≤ length bytes → head_fault e bytes ≡ None
     → IsSound e (head_at bytes) × (take 40 bytes ≡ head_bytes (head_at bytes))
@@ -182,7 +186,7 @@ sound_when e bytes fits long none =
     let zeros = and_parts _ _ last.0 in (
       record {
         header = record {
-          version = v.1;
+          version = subst IsVersion (sym version-is) e.known;
           session = s.1;
           stream = t.1;
           index = i.1;
@@ -192,7 +196,7 @@ sound_when e bytes fits long none =
         session = eqb-true _ _ foreign.0;
         stream = stream_from (carries (kind_at bytes)) e (head_at bytes) foreign.1;
       },
-      spelled_by bytes (head_at bytes)
+      encoded_by bytes (head_at bytes)
           (sym m.0 ∙ ap (to_be_bytes w32) magic-is) (sym v.0) (sym k.0 ∙ ap (to_be_bytes w16) (sym kind-is))
           (sym s.0) (sym t.0) (sym i.0) (sym n.0)
           (sym z.0 ∙ ap (to_be_bytes w64) (eqb-true _ _ zeros.0)) (sym y.0 ∙ ap (to_be_bytes w32) (eqb-true _ _ zeros.1)),

@@ -14,7 +14,7 @@ use Rattle.vfm_packet.specs.Packet.{Packet, packet_at, packet_bytes, packet_size
 use Rattle.vfm_packet.specs.Answer.{decoded, BeginsWith, IsPartial}
 use Rattle.vfm_packet.specs.Channel.{IsCarried, all_bytes, Stands, mark_size, IsSoundChannel}
 use Rattle.vfm_packet.specs.Refusal.{Refusal, Bad, Aborted, judged, is_over, Says, IsReading}
-use Rattle.vfm_packet.specs.Reading.{Reading, ends, brings, brings_all, unfinished, behind_end, on_packet, on_answer, reading_of, reading_at, reading_within}
+use Rattle.vfm_packet.specs.Reading.{Reading, ends, brings, brings_all, unfinished, after_end, on_packet, on_answer, reading_of, reading_at, reading_within}
 use Rattle.vfm_packet.proofs.Words.{IsBytes-drop, IsBytes-take}
 use Rattle.vfm_packet.proofs.Decoding.{Reads, reads}
 use Rattle.vfm_packet.proofs.Packets.{length-packet_bytes, packet_was}
@@ -29,14 +29,14 @@ IsJudged limit false total = total ≤ limit
 record Sees (limit : ℕ) (e : Expect) (over : Bool) (place : ℕ) (rest : List ℕ) (r : Reading) : Type 0 where
   back : List ℕ
   each : AllByRecursion (IsCarried e) r.packets
-  spelled : rest ≡ all_bytes r.packets ++ back
+  encoded : rest ≡ all_bytes r.packets ++ back
   says : Says limit e over (place + length (all_bytes r.packets)) back r.refusal
 
 sees_nothing : (limit : ℕ) (e : Expect) (over : Bool) (place : ℕ) (rest : List ℕ) (refusal : Option Refusal)
     → Says limit e over place rest refusal → Sees limit e over place rest (ends refusal)
 sees_nothing limit e over place rest refusal says =
     let stays : place ≡ place + 0 = omega arith in
-    record { back = rest; each = tt; spelled = refl; says = subst (λ (p : ℕ). Says limit e over p rest refusal) stays says }
+    record { back = rest; each = tt; encoded = refl; says = subst (λ (p : ℕ). Says limit e over p rest refusal) stays says }
 
 sees_packet : (limit : ℕ) (e : Expect) (over : Bool) (place : ℕ) (rest : List ℕ) (p : Packet) (after : List ℕ) (r : Reading)
     → IsCarried e p → rest ≡ packet_bytes p ++ after → Sees limit e over (place + packet_size p.head) after r → Sees limit e over place rest (brings p r)
@@ -46,7 +46,7 @@ sees_packet limit e over place rest p after r is parts sees =
     record {
       back = sees.back;
       each = (is, sees.each);
-      spelled = parts ∙ ap (λ (l : List ℕ). packet_bytes p ++ l) sees.spelled ∙ sym (append_assoc (packet_bytes p) (all_bytes r.packets) sees.back);
+      encoded = parts ∙ ap (λ (l : List ℕ). packet_bytes p ++ l) sees.encoded ∙ sym (append_assoc (packet_bytes p) (all_bytes r.packets) sees.back);
       says = subst (λ (n : ℕ). Says limit e over n sees.back r.refusal) next sees.says;
     }
 
@@ -56,7 +56,7 @@ says_unfinished limit e false place [] partial = (refl, refl, refl)
 says_unfinished limit e false place (b ∷ rest) partial = (refl, refl, omega arith, partial)
 
 says_end : (limit : ℕ) (e : Expect) (over : Bool) (place : ℕ) (rest more : List ℕ) → Stands e End rest more → IsJudged limit over (place + mark_size e + length more)
-    → Says limit e over place rest (behind_end limit over (place + mark_size e) more)
+    → Says limit e over place rest (after_end limit over (place + mark_size e) more)
 says_end limit e true place rest [] there total = (refl, inr ([], there, omega arith))
 says_end limit e false place rest [] there total = (refl, there)
 says_end limit e true place rest (b ∷ more) there total =
@@ -75,8 +75,8 @@ packet_stands e rest h used begins size =
     let was = packet_was e rest h begins in
     (was.0, was.1 ∙ ap (λ (n : ℕ). packet_bytes (packet_at h rest) ++ drop n rest) (sym size))
 
-judged_behind : (limit : ℕ) (over : Bool) (total sum : ℕ) → total ≡ sum → IsJudged limit over total → IsJudged limit over sum
-judged_behind limit over total sum same is = subst (λ (n : ℕ). IsJudged limit over n) same is
+judged_after : (limit : ℕ) (over : Bool) (total sum : ℕ) → total ≡ sum → IsJudged limit over total → IsJudged limit over sum
+judged_after limit over total sum same is = subst (λ (n : ℕ). IsJudged limit over n) same is
 
 sees_kind : (kind : Kind) (limit : ℕ) (e : Expect) (over : Bool) (place : ℕ) (rest : List ℕ) (h : Header) (used : ℕ) (go : ℕ → List ℕ → Reading)
     → h.kind ≡ kind → BeginsWith e rest h → used ≡ packet_size h → IsJudged limit over (place + length rest)
@@ -90,16 +90,16 @@ sees_kind Config limit e over place rest h used go of_kind begins size total nex
     sees_packet limit e over place rest (packet_at h rest) (drop used rest) (go (place + used) (drop used rest)) (record { sound = there.0; carries = ap carries of_kind }) there.1 next
 sees_kind End limit e over place rest h used go of_kind begins size total next =
     let there = packet_stands e rest h used begins size in
-    let stands : Stands e End rest (drop used rest) = record { packet = packet_at h rest; sound = there.0; of_kind = of_kind; spelled = there.1 } in
+    let stands : Stands e End rest (drop used rest) = record { packet = packet_at h rest; sound = there.0; of_kind = of_kind; encoded = there.1 } in
     let mark : used ≡ mark_size e = size ∙ mark_len End e (packet_at h rest) refl of_kind there.0 in
     let whole = begins.whole in
     let sum : place + length rest ≡ place + mark_size e + length (drop used rest) = omega (arith, length-drop used rest) in
-    sees_nothing limit e over place rest (behind_end limit over (place + used) (drop used rest))
-    (subst (λ (n : ℕ). Says limit e over place rest (behind_end limit over (place + n) (drop used rest))) (sym mark)
-    (says_end limit e over place rest (drop used rest) stands (judged_behind limit over (place + length rest) (place + mark_size e + length (drop used rest)) sum total)))
+    sees_nothing limit e over place rest (after_end limit over (place + used) (drop used rest))
+    (subst (λ (n : ℕ). Says limit e over place rest (after_end limit over (place + n) (drop used rest))) (sym mark)
+    (says_end limit e over place rest (drop used rest) stands (judged_after limit over (place + length rest) (place + mark_size e + length (drop used rest)) sum total)))
 sees_kind Abort limit e over place rest h used go of_kind begins size total next =
     let there = packet_stands e rest h used begins size in
-    let stands : Stands e Abort rest (drop used rest) = record { packet = packet_at h rest; sound = there.0; of_kind = of_kind; spelled = there.1 } in
+    let stands : Stands e Abort rest (drop used rest) = record { packet = packet_at h rest; sound = there.0; of_kind = of_kind; encoded = there.1 } in
     sees_nothing limit e over place rest (Some (Aborted place)) (refl, (drop used rest, stands))
 
 sees_answer : (d : Decoded) (limit : ℕ) (e : Expect) (over : Bool) (place : ℕ) (rest : List ℕ) (go : ℕ → List ℕ → Reading)
@@ -111,7 +111,7 @@ sees_answer (answers.Packet h used) limit e over place rest go is total next =
 sees_answer answers.More limit e over place rest go is total next =
     sees_nothing limit e over place rest (unfinished over place rest) (says_unfinished limit e over place rest is)
 sees_answer (answers.Bad cause) limit e over place rest go is total next =
-    sees_nothing limit e over place rest (Some (Bad place cause)) (refl, is.0.long, is.1)
+    sees_nothing limit e over place rest (Some (Bad place cause)) (refl, is)
 
 sees : (n limit : ℕ) (e : Expect) (over : Bool) (place : ℕ) (rest : List ℕ) → IsBytes rest → length rest ≤ n → IsJudged limit over (place + length rest)
     → Sees limit e over place rest (reading_of n limit e over place rest)
@@ -128,7 +128,7 @@ sees (suc n) limit e over place rest fits in_n total =
     let sum : place + length rest ≡ place + used + length (drop used rest) = omega (arith, size) in
     subst (λ (p : ℕ). Sees limit e over p (drop used rest) (reading_of n limit e over (place + used) (drop used rest))) here
     (sees n limit e over (place + used) (drop used rest) (IsBytes-drop used rest fits) (omega (arith, size))
-    (judged_behind limit over (place + length rest) (place + used + length (drop used rest)) sum total)))
+    (judged_after limit over (place + length rest) (place + used + length (drop used rest)) sum total)))
 
 judged_total : (limit : ℕ) (bytes : List ℕ) (over : Bool) → is_over limit bytes ≡ over → IsJudged limit over (0 + length (judged limit bytes))
 judged_total limit bytes true is = omega (arith, ltb-true limit (length bytes) is, length-take (limit + 1) bytes)
@@ -143,7 +143,7 @@ reads_channel limit e bytes fits =
     record {
       rest = s.back;
       each = s.each;
-      spelled = s.spelled;
+      encoded = s.encoded;
       says = subst (λ (n : ℕ). Says limit e (is_over limit bytes) n s.back (reading_within limit e bytes).refusal)
           (zero-add (length (all_bytes (reading_within limit e bytes).packets))) s.says;
     }
@@ -160,7 +160,7 @@ sound_reads limit e bytes packets is short =
     is_the_reading limit e bytes packets None (record {
       rest = is.rest;
       each = is.each;
-      spelled = judged_all limit bytes (omega arith) ∙ is.spelled;
+      encoded = judged_all limit bytes (omega arith) ∙ is.encoded;
       says = (le-ltb limit (length bytes) short, is.ends);
     })
 
@@ -171,11 +171,11 @@ reads_sound limit e bytes fits none =
     let packets = (reading_within limit e bytes).packets in
     let says = subst (λ (r : Option Refusal). Says limit e (is_over limit bytes) (length (all_bytes (reading_within limit e bytes).packets)) is.rest r) none is.says in
     let short : length bytes ≤ limit = ltb-false limit (length bytes) says.0 in
-    (record { rest = is.rest; each = is.each; spelled = sym (judged_all limit bytes (omega arith)) ∙ is.spelled; ends = says.1 }, short)
+    (record { rest = is.rest; each = is.each; encoded = sym (judged_all limit bytes (omega arith)) ∙ is.encoded; ends = says.1 }, short)
 
--- nothing behind the first byte past the limit is looked at
-pub judged_front : (limit : ℕ) (e : Expect) (bytes : List ℕ) → reading_within limit e (judged limit bytes) ≡ reading_within limit e bytes
-judged_front limit e bytes =
+-- nothing after the first byte past the limit is looked at
+pub judged_prefix : (limit : ℕ) (e : Expect) (bytes : List ℕ) → reading_within limit e (judged limit bytes) ≡ reading_within limit e bytes
+judged_prefix limit e bytes =
     let over : is_over limit (judged limit bytes) ≡ is_over limit bytes =
     elim (cases_lt limit (length bytes)) [
       | inl past ↦ lt-ltb limit (length (judged limit bytes)) (omega (arith, length-take (limit + 1) bytes)) ∙ sym (lt-ltb limit (length bytes) past)
@@ -184,14 +184,14 @@ judged_front limit e bytes =
     ap (λ (o : Bool). reading_at limit e o 0 (judged limit (judged limit bytes))) over
     ∙ ap (λ (l : List ℕ). reading_at limit e (is_over limit bytes) 0 l) (judged_all limit (judged limit bytes) (omega (arith, length-take (limit + 1) bytes)))
 
--- a packet that is decoded was spelled
+-- a packet that is decoded was encoded
 pub decoded_was : (e : Expect) (bytes : List ℕ) (h : Header) (used : ℕ) → IsBytes bytes → decoded e bytes ≡ answers.Packet h used
     → IsSoundPacket e (packet_at h bytes) × (bytes ≡ packet_bytes (packet_at h bytes) ++ drop used bytes)
 decoded_was e bytes h used fits is =
     let found = subst (λ (d : Decoded). Reads e bytes d) is (reads e bytes fits) in
     packet_stands e bytes h used found.0 found.1
 
--- of what came of a channel, packets are brought, and the reading goes on behind them
+-- of what came of a channel, packets are brought, and the reading goes on after them
 pub received :
     (packets : List Packet) (limit : ℕ) (e : Expect) (rest : List ℕ) → AllByRecursion (IsCarried e) packets
     → length (all_bytes packets ++ rest) ≤ limit + 1

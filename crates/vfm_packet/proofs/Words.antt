@@ -25,7 +25,7 @@ piece_len n place bytes h = omega (arith, length-take n (drop place bytes), leng
 pub IsBytes-piece : (n place : ℕ) (bytes : List ℕ) → IsBytes bytes → IsBytes (take n (drop place bytes))
 IsBytes-piece n place bytes h = IsBytes-take n (drop place bytes) (IsBytes-drop place bytes h)
 
--- ---- out of bytes: the number that stands at a place fits, and spells the bytes that stand there
+-- ---- out of bytes: the number that stands at a place fits, and encodes the bytes that stand there
 
 pub word_16 : (place : ℕ) (bytes : List ℕ) → place + 2 ≤ length bytes → IsBytes bytes
     → (to_be_bytes w16 (word_at w16 place bytes) ≡ take 2 (drop place bytes)) × (word_at w16 place bytes < 2 ^ 16)

@@ -20,12 +20,12 @@ pub record IsCarried (e : Expect) (p : Packet) : Type 0 where
 abbrev pub all_bytes : List Packet → List ℕ
 all_bytes packets = flat_map packet_bytes packets
 
--- a sound packet of this kind stands at the front, and more follows
+-- a sound packet of this kind stands at the start, and more follows
 pub record Stands (e : Expect) (kind : Kind) (bytes more : List ℕ) : Type 0 where
   pub packet : Packet
   pub sound : IsSoundPacket e packet
   pub of_kind : packet.head.kind ≡ kind
-  pub spelled : bytes ≡ packet_bytes packet ++ more
+  pub encoded : bytes ≡ packet_bytes packet ++ more
 
 -- how many bytes an end or an abort packet has
 abbrev pub mark_size : Expect → ℕ
@@ -35,5 +35,5 @@ mark_size e = 40 + seal_len e.version
 pub record IsSoundChannel (e : Expect) (bytes : List ℕ) (packets : List Packet) : Type 0 where
   pub rest : List ℕ
   pub each : AllByRecursion (IsCarried e) packets
-  pub spelled : bytes ≡ all_bytes packets ++ rest
+  pub encoded : bytes ≡ all_bytes packets ++ rest
   pub ends : Stands e End rest []

@@ -1,4 +1,4 @@
--- The header of a packet: its kinds, its one spelling, and which headers there are.
+-- The header of a packet: its kinds, its one encoding, and which headers there are.
 use Rattle.std.specs.Prelude.{◌≡◌, ℕ, ◌^◌, ◌<◌, ◌≤◌, ◌==◌, Bool, true, false, if◌then◌else◌, Option, Some, None, List, [], ◌∷◌, ◌++◌, slice_index}
 use Rattle.std.specs.Int.{w16, w32, w64, to_be_bytes}
 use Rattle.vfm_packet.specs.declared.header.Header.{Header}
@@ -50,9 +50,13 @@ abbrev pub HasShape : Bool → Header → Type 0
 HasShape true h = (0 < h.length) × (h.length ≤ 65536)
 HasShape false h = (h.stream ≡ 0) × (h.index ≡ 0) × (h.length ≡ 0)
 
--- a header of the grammar: each number fits its field, and the kind goes with the rest
+-- the versions of the format that there are
+abbrev pub IsVersion : ℕ → Type 0
+IsVersion version = (1 ≤ version) × (version ≤ 2)
+
+-- a header of the grammar: of a version that there is, each number fits its field, and the kind goes with the rest
 pub record IsHeader (h : Header) : Type 0 where
-  pub version : h.version < 2 ^ 16
+  pub version : IsVersion h.version
   pub session : h.session < 2 ^ 64
   pub stream : h.stream < 2 ^ 32
   pub index : h.index < 2 ^ 32

@@ -1,5 +1,6 @@
--- A whole packet: its header, its payload, and what would follow the payload.
-use Rattle.std.specs.Prelude.{◌≡◌, ℕ, ◌+◌, List, [], ◌++◌, length, take, drop}
+-- A whole packet: its header, its payload, and the seal that follows the payload.
+use Rattle.std.specs.Prelude.{◌≡◌, ℕ, ◌+◌, ◌==◌, if◌then◌else◌, List, ◌++◌, length, take, drop}
+use Rattle.sha2.specs.Sha256.{sha256}
 use Rattle.vfm_packet.specs.declared.header.Header.{Header}
 use Rattle.vfm_packet.specs.declared.answer.Expect.{Expect}
 use Rattle.vfm_packet.specs.Header.{head_bytes}
@@ -10,13 +11,17 @@ pub record Packet : Type 0 where
   pub head : Header
   pub payload : List ℕ
 
--- the bytes behind the payload: there are none in this version of the format
-abbrev pub seal : Packet → List ℕ
-seal p = []
+-- the SHA-256 (FIPS 180-4) of header and payload
+abbrev pub packet_digest : Packet → List ℕ
+packet_digest p = sha256 (head_bytes p.head ++ p.payload)
 
--- how many bytes stand behind the payload under this version of the format
+-- how many bytes of that digest follow the payload: none in version 1, all of them in version 2
 abbrev pub seal_len : ℕ → ℕ
-seal_len version = 0
+seal_len version = if version == 2 then 32 else 0
+
+-- the bytes that follow the payload
+abbrev pub seal : Packet → List ℕ
+seal p = take (seal_len p.head.version) (packet_digest p)
 
 -- the bytes of a packet
 abbrev pub packet_bytes : Packet → List ℕ
@@ -31,6 +36,6 @@ pub record IsSoundPacket (e : Expect) (p : Packet) : Type 0 where
   pub head : IsSound e p.head
   pub len : length p.payload ≡ p.head.length
 
--- the packet with this header at the front of some bytes
+-- the packet with this header at the start of some bytes
 abbrev pub packet_at : Header → List ℕ → Packet
 packet_at head bytes = record { head = head; payload = take head.length (drop 40 bytes) }

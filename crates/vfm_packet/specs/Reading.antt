@@ -34,17 +34,17 @@ unfinished true place rest = Some TooLong
 unfinished false place [] = Some (NoEnd place)
 unfinished false place (byte ∷ rest) = Some (Truncated place)
 
--- behind an end packet
-abbrev pub behind_end : ℕ → Bool → ℕ → List ℕ → Option Refusal
-behind_end limit true place [] = Some TooLong
-behind_end limit false place [] = None
-behind_end limit over place (byte ∷ rest) = if nat_lt place limit then Some (AfterEnd place) else Some TooLong
+-- after an end packet
+abbrev pub after_end : ℕ → Bool → ℕ → List ℕ → Option Refusal
+after_end limit true place [] = Some TooLong
+after_end limit false place [] = None
+after_end limit over place (byte ∷ rest) = if nat_lt place limit then Some (AfterEnd place) else Some TooLong
 
 -- what a packet at a place leads to; go reads on at a place
 abbrev pub on_packet : Kind → ℕ → Bool → ℕ → List ℕ → Header → ℕ → (ℕ → List ℕ → Reading) → Reading
 on_packet Data limit over place rest head used go = brings (packet_at head rest) (go (place + used) (drop used rest))
 on_packet Config limit over place rest head used go = brings (packet_at head rest) (go (place + used) (drop used rest))
-on_packet End limit over place rest head used go = ends (behind_end limit over (place + used) (drop used rest))
+on_packet End limit over place rest head used go = ends (after_end limit over (place + used) (drop used rest))
 on_packet Abort limit over place rest head used go = ends (Some (Aborted place))
 
 -- what stands at a place leads to this

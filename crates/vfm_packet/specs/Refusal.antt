@@ -4,14 +4,13 @@ use Rattle.std.specs.List.{AllByRecursion}
 use Rattle.vfm_packet.specs.declared.header.Kind.TheVariants.{End, Abort}
 use Rattle.vfm_packet.specs.declared.answer.Expect.{Expect}
 use Rattle.vfm_packet.specs.declared.answer.Cause.{Cause}
-use Rattle.vfm_packet.specs.Sound.{head_fault}
 use Rattle.vfm_packet.specs.Packet.{Packet}
-use Rattle.vfm_packet.specs.Answer.{IsPartial}
+use Rattle.vfm_packet.specs.Answer.{IsPartial, IsRefused}
 use Rattle.vfm_packet.specs.Channel.{IsCarried, all_bytes, Stands, mark_size}
 
 -- why a channel is refused, and the place: the offset of the first byte that isn't part of a packet before it
 pub data Refusal : Type 0 where
-  -- forty bytes that are no sound header
+  -- forty bytes that are no sound header, or a whole packet with another seal
   Bad : ℕ → Cause → Refusal
   -- an abort packet
   Aborted : ℕ → Refusal
@@ -19,7 +18,7 @@ pub data Refusal : Type 0 where
   Truncated : ℕ → Refusal
   -- the channel's end, with no end packet before it
   NoEnd : ℕ → Refusal
-  -- a byte behind the end packet
+  -- a byte after the end packet
   AfterEnd : ℕ → Refusal
   -- more bytes than a channel may have
   TooLong : Refusal
@@ -37,10 +36,10 @@ is_over limit bytes = nat_lt limit (length bytes)
 abbrev pub PassesLimit : ℕ → Expect → ℕ → List ℕ → Type 0
 PassesLimit limit e place rest = IsPartial e rest ⊎ ((more : List ℕ) × Stands e End rest more × (limit ≤ place + mark_size e))
 
--- what the rest of what is judged, behind the packets and from a place on, says of the channel
+-- what the rest of what is judged, after the packets and from a place on, says of the channel
 abbrev pub Says : ℕ → Expect → Bool → ℕ → List ℕ → Option Refusal → Type 0
 Says limit e over place rest None = (over ≡ false) × Stands e End rest []
-Says limit e over place rest (Some (Bad at cause)) = (at ≡ place) × (40 ≤ length rest) × (head_fault e rest ≡ Some cause)
+Says limit e over place rest (Some (Bad at cause)) = (at ≡ place) × IsRefused e rest cause
 Says limit e over place rest (Some (Aborted at)) = (at ≡ place) × ((more : List ℕ) × Stands e Abort rest more)
 Says limit e over place rest (Some (Truncated at)) = (at ≡ place) × (over ≡ false) × (0 < length rest) × IsPartial e rest
 Says limit e over place rest (Some (NoEnd at)) = (at ≡ place) × (over ≡ false) × (rest ≡ [])
@@ -52,5 +51,5 @@ Says limit e over place rest (Some TooLong) = (over ≡ true) × PassesLimit lim
 pub record IsReading (limit : ℕ) (e : Expect) (bytes : List ℕ) (packets : List Packet) (refusal : Option Refusal) : Type 0 where
   pub rest : List ℕ
   pub each : AllByRecursion (IsCarried e) packets
-  pub spelled : judged limit bytes ≡ all_bytes packets ++ rest
+  pub encoded : judged limit bytes ≡ all_bytes packets ++ rest
   pub says : Says limit e (is_over limit bytes) (length (all_bytes packets)) rest refusal

@@ -24,7 +24,7 @@ word_at w place bytes = from_be_bytes w (take (byte_len w) (drop place bytes))
 abbrev pub kind_at : List ℕ → Kind
 kind_at bytes = unwrap_or (kind_of_number (word_at w16 6 bytes)) Abort
 
--- the header that stands at the front
+-- the header that stands at the start
 abbrev pub head_at : List ℕ → Header
 head_at bytes = record {
   version = word_at w16 4 bytes;
@@ -55,7 +55,7 @@ abbrev pub first_failed : List (Bool × Cause) → Option Cause
 first_failed [] = None
 first_failed (test ∷ tests) = if test.0 then first_failed tests else Some test.1
 
--- the tests of forty bytes and of the header that they spell, in their order
+-- the tests of forty bytes and of the header that they encode, in their order
 abbrev pub head_tests : Expect → List ℕ → Header → List (Bool × Cause)
 head_tests e bytes h =
     (word_at w32 0 bytes == 0x56464d44, causes.Magic)
@@ -66,6 +66,6 @@ head_tests e bytes h =
     ∷ (word_at w64 28 bytes == 0 && word_at w32 36 bytes == 0 && has_zeros (carries h.kind) h, causes.Spare)
     ∷ []
 
--- why the forty bytes at the front are no sound header, if they aren't: the first test that fails
+-- why the forty bytes at the start are no sound header, if they aren't: the first test that fails
 unfoldable pub head_fault : Expect → List ℕ → Option Cause
 head_fault e bytes = first_failed (head_tests e bytes (head_at bytes))

@@ -1,22 +1,22 @@
 //! What a reader of packets expects and what it answers.
 
-ghost use Rattle.std.specs.Prelude.{◌≡◌};
-ghost use Rattle.vfm_packet.specs.Answer.{cause_number};
+ghost use Rattle.vfm_packet.specs.Header.{IsVersion};
 
 use crate::header::Header;
 
 /// What the headers of a channel have to say.
 #[derive(Clone, Copy, Debug, PartialEq, Eq)]
 pub struct Expect {
-    /// The version of the format.
+    /// The version of the format, 1 or 2.
     pub version: u16,
     /// The session.
     pub session: u64,
     /// How many streams there are: a stream's number is below this.
     pub streams: u32,
+    pub ghost known: { IsVersion version },
 }
 
-/// Why 40 bytes are no sound header. Where several causes apply, the first of this order is the answer.
+/// Why the bytes at a place are no packet. Where several causes apply, the first of this order is the answer.
 #[derive(Clone, Copy, Debug, PartialEq, Eq)]
 pub enum Cause {
     /// The first four bytes aren't `VFMD`.
@@ -31,10 +31,15 @@ pub enum Cause {
     Length,
     /// Bytes that have to be zero aren't: the last twelve, and the stream, index and length of an end or abort packet.
     Spare,
+    /// The packet is whole, and its seal isn't the SHA-256 of its header and payload.
+    Corrupt,
 }
 
 impl Cause {
-    /// The number of the cause, 1 to 6.
+    ghost use Rattle.std.specs.Prelude.{◌≡◌};
+    ghost use Rattle.vfm_packet.specs.Answer.{cause_number};
+
+    /// The number of the cause: 1 to 6 for those of a header, in their order, and 13 for `Corrupt`.
     pub fn number(self) -> u32
         ensures { result ≡ cause_number self }
     {
@@ -45,17 +50,18 @@ impl Cause {
             Cause::Foreign => 4,
             Cause::Length => 5,
             Cause::Spare => 6,
+            Cause::Corrupt => 13,
         }
     }
 }
 
-/// What stands at the front of some bytes.
+/// What stands at the start of some bytes.
 #[derive(Clone, Copy, Debug, PartialEq, Eq)]
 pub enum Decoded {
-    /// A whole packet of `used` bytes. Its payload stands behind the 40 bytes of the header.
+    /// A whole packet of `used` bytes: the 40 bytes of its header, its payload, and in version 2 its seal of 32 bytes.
     Packet { head: Header, used: usize },
     /// Less than a whole packet, as far as can be seen.
     More,
-    /// 40 bytes that are no sound header.
+    /// 40 bytes that are no sound header, or a whole packet with another seal.
     Bad { cause: Cause },
 }

@@ -2,10 +2,16 @@
 
 ghost use Rattle.std.specs.Prelude.{◌≡◌, ◌≤◌, ◌<◌, ◌↔◌, IsSome, IfSome};
 ghost use Rattle.vfm_packet.specs.Header.{kind_number, kind_of_number};
-ghost use Rattle.vfm_packet.specs.Packet.{packet_size};
+ghost use Rattle.vfm_packet.specs.Packet.{packet_size, seal_len};
 
 /// How many bytes a header has.
 pub const HEAD_LEN: usize = 40;
+
+/// How many bytes a seal has.
+pub const SEAL_LEN: usize = 32;
+
+/// The version of the format whose packets are sealed.
+const SEALED_VERSION: u16 = 2;
 
 /// The most bytes that one payload may have.
 pub const PAYLOAD_LIMIT: u32 = 65_536;
@@ -58,7 +64,7 @@ impl Kind {
 /// The header of a packet, 40 bytes on the wire, each number big-endian.
 #[derive(Clone, Copy, Debug, PartialEq, Eq)]
 pub struct Header {
-    /// The version of the format.
+    /// The version of the format, 1 or 2.
     pub version: u16,
     /// What the packet is for.
     pub kind: Kind,
@@ -72,9 +78,20 @@ pub struct Header {
     pub length: u32,
 }
 
+/// How many bytes follow the payload in this version of the format: the 32 bytes of a seal in version 2, else none.
+pub fn seal_len(version: u16) -> usize
+    ensures { result ≡ seal_len version }
+{
+    if version == SEALED_VERSION {
+        SEAL_LEN
+    } else {
+        0
+    }
+}
+
 /// How many bytes a packet with this header has in all.
 pub fn packet_size(head: &Header) -> usize
     ensures { result ≡ packet_size head.now }
 {
-    HEAD_LEN + head.length as usize
+    HEAD_LEN + head.length as usize + seal_len(head.version)
 }

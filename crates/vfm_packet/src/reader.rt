@@ -1,16 +1,17 @@
-//! Reading the packet at the front of some bytes.
+//! Reading the packet at the start of some bytes.
 
-ghost use Rattle.std.specs.Prelude.{◌≡◌, ◌+◌, ◌≤◌, ◌↔◌, ℕ, length, MatchResult, Some, None};
+ghost use Rattle.std.specs.Prelude.{◌≡◌, ◌+◌, ◌≤◌, ◌↔◌, ◌≢◌, ℕ, length, MatchResult, Some, None};
 ghost use Rattle.std.specs.Int.{w16, w32, w64};
 ghost use Rattle.vfm_packet.specs.Header.{carries};
 ghost use Rattle.vfm_packet.specs.Sound.{word_at, head_at, head_fault, knows_stream, has_length, has_zeros};
 ghost use Rattle.vfm_packet.specs.Packet.{packet_size};
-ghost use Rattle.vfm_packet.specs.Answer.{decoded, BeginsWith, IsPartial, HasNoHeader};
+ghost use Rattle.vfm_packet.specs.Answer.{decoded, decoded_head, is_sealed, BeginsWith, IsPartial, IsRefused, IsCorrupt};
 ghost use Rattle.vfm_packet.specs.declared.header.Header.{Header};
 ghost use Rattle.vfm_packet.specs.declared.answer.Cause.{Cause};
 
 use crate::answer::{Cause, Decoded, Expect};
-use crate::header::{HEAD_LEN, Header, Kind, PAYLOAD_LIMIT, packet_size};
+use crate::header::{HEAD_LEN, Header, Kind, PAYLOAD_LIMIT, packet_size, seal_len};
+use crate::writer::{encode_head, seal};
 
 /// The first four bytes of a header, `VFMD`, as a number.
 const MAGIC: u32 = 0x5646_4d44;
@@ -86,7 +87,7 @@ fn has_zeros(head: &Header) -> bool
     }
 }
 
-// The header that stands at the front, with this version and kind.
+// The header that stands at the start, with this version and kind.
 fn header_at(version: u16, kind: Kind, bytes: &[u8]) -> Header
     requires { 40 ≤ length bytes.now }
     ensures { result ≡ record (head_at bytes.now) { version = version; kind = kind } }
@@ -101,7 +102,7 @@ fn header_at(version: u16, kind: Kind, bytes: &[u8]) -> Header
     }
 }
 
-// The sound header at the front, or why there is none.
+// The sound header at the start, or why there is none.
 #[tactic(auto, unfolding(crate::specs::Sound::head_fault))]
 fn sound_head(bytes: &[u8], expect: &Expect) -> Result<Header, Cause>
     requires { 40 ≤ length bytes.now }
@@ -133,6 +134,36 @@ fn sound_head(bytes: &[u8], expect: &Expect) -> Result<Header, Cause>
     Ok(head)
 }
 
+// Whether the payload is followed by the packet's seal. A sound header has one encoding, so the forty bytes of this one
+// are those that stand there. Where no seal follows, no digest is computed.
+fn is_sealed(head: &Header, bytes: &[u8]) -> bool
+    requires { packet_size head.now ≤ length bytes.now }
+    ensures { result ≡ is_sealed head.now bytes.now }
+{
+    if seal_len(head.version) == 0 {
+        return true;
+    }
+    let end = HEAD_LEN + head.length as usize;
+    let digest = seal(&encode_head(head), &bytes[HEAD_LEN..end]);
+    bytes[end..].starts_with(&digest)
+}
+
+// The answer about a sound header.
+fn answer_head(head: Header, bytes: &[u8]) -> Decoded
+    ensures { result ≡ decoded_head head bytes.now }
+{
+    let used = packet_size(&head);
+    if bytes.len() < used {
+        Decoded::More
+    } else if is_sealed(&head, bytes) {
+        Decoded::Packet { head, used }
+    } else {
+        Decoded::Bad {
+            cause: Cause::Corrupt,
+        }
+    }
+}
+
 // The answer by the tests in their order.
 #[tactic(auto, unfolding(crate::specs::Answer::decoded))]
 fn answer(bytes: &[u8], expect: &Expect) -> Decoded
@@ -142,29 +173,22 @@ fn answer(bytes: &[u8], expect: &Expect) -> Decoded
         return Decoded::More;
     }
     match sound_head(bytes, expect) {
-        Ok(head) => {
-            let used = packet_size(&head);
-            if bytes.len() < used {
-                Decoded::More
-            } else {
-                Decoded::Packet { head, used }
-            }
-        }
+        Ok(head) => answer_head(head, bytes),
         Err(cause) => Decoded::Bad { cause },
     }
 }
 
-/// What stands at the front of the bytes: a whole packet, less than one, or 40 bytes that are no sound header.
-/// What follows a packet isn't looked at, and no memory is taken.
+/// What stands at the start of the bytes: a whole packet, less than one, 40 bytes that are no sound header, or a whole
+/// packet of version 2 with another seal. What follows a packet isn't looked at, and no memory is taken.
 pub fn decode(bytes: &[u8], expect: &Expect) -> Decoded
-    // Exactly a sound header with all that it announces is a packet.
+    // Exactly a sound header with all that it announces, its seal being the right one, is a packet.
     ensures packet { (head : Header) (used : ℕ) → (result ≡ Decoded.Packet head used)
         ↔ (BeginsWith expect.now bytes.now head × (used ≡ packet_size head)) }
     // Fewer than 40 bytes, or a sound header that announces more than there is, ask for more.
     ensures more { (result ≡ Decoded.More) ↔ IsPartial expect.now bytes.now }
-    // 40 bytes that spell no sound header are refused, for the first test of the order that fails.
-    ensures bad { (cause : Cause) → (result ≡ Decoded.Bad cause)
-        ↔ (HasNoHeader expect.now bytes.now × (head_fault expect.now bytes.now ≡ Some cause)) }
+    // 40 bytes that encode no sound header are refused for the first test that fails, a whole packet for its seal alone.
+    ensures bad { (cause : Cause) → (result ≡ Decoded.Bad cause) ↔ IsRefused expect.now bytes.now cause }
+    ensures corrupt { (result ≡ Decoded.Bad Cause.Corrupt) ↔ IsCorrupt expect.now bytes.now }
     ensures exact { result ≡ decoded expect.now bytes.now }
 {
     answer(bytes, expect)

@@ -3,7 +3,7 @@ use Rattle.std.proofs.Common.{ℕ, sym, ap, ◌∙◌, subst, arith}
 use Rattle.vfm_packet.specs.declared.answer.Decoded.{Decoded}
 use Rattle.vfm_packet.specs.declared.answer.Decoded.TheVariants.{Packet}
 use Rattle.vfm_packet.specs.Header.{IsBytes}
-use Rattle.vfm_packet.proofs.Decoding.{Reads, reads, packet_reads, partial_reads, bad_reads}
+use Rattle.vfm_packet.proofs.Decoding.{Reads, reads, packet_reads, partial_reads, corrupt_reads, refused_reads, corrupt_when}
 use Rattle.vfm_packet.proofs.reader.decode.Goals as goal
 
 pub returns-clause-packet : goal.returns-clause-packet
@@ -30,5 +30,14 @@ returns-clause-bad c cause =
     let bytes = c.args.bytes.now in
     let fits : IsBytes bytes = λ i. omega (arith, c.type_inv.bytes i) in (
       λ is. subst (λ (d : Decoded). Reads e bytes d) (sym c.answer.ensures ∙ is) (reads e bytes fits),
-      λ there. c.answer.ensures ∙ bad_reads e bytes cause there.0.long there.1,
+      λ there. c.answer.ensures ∙ refused_reads e bytes cause there,
+    )
+
+pub returns-clause-corrupt : goal.returns-clause-corrupt
+returns-clause-corrupt c =
+    let e = c.args.expect.now in
+    let bytes = c.args.bytes.now in
+    let fits : IsBytes bytes = λ i. omega (arith, c.type_inv.bytes i) in (
+      λ is. corrupt_when e bytes (subst (λ (d : Decoded). Reads e bytes d) (sym c.answer.ensures ∙ is) (reads e bytes fits)),
+      λ there. c.answer.ensures ∙ corrupt_reads e bytes there,
     )

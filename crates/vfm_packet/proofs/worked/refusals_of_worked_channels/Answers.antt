@@ -53,9 +53,9 @@ pub returns-clause-too_long_at_end : goal.returns-clause-too_long_at_end
 unfolding reading_of decoded head_fault word_at
 returns-clause-too_long_at_end c = refl
 
-pub returns-clause-too_long_behind_limit : goal.returns-clause-too_long_behind_limit
+pub returns-clause-too_long_after_limit : goal.returns-clause-too_long_after_limit
 unfolding reading_of decoded head_fault word_at
-returns-clause-too_long_behind_limit c = refl
+returns-clause-too_long_after_limit c = refl
 
 pub returns-clause-too_long_header : goal.returns-clause-too_long_header
 unfolding reading_of decoded head_fault word_at

@@ -1,6 +1,0 @@
--- What is read was spelled.
-use Rattle.vfm_packet.proofs.Readings.{decoded_was}
-use Rattle.vfm_packet.proofs.laws.decoded_packet_is_spelled.Goals as goal
-
-pub returns : goal.returns
-returns c e bytes head used fits is = decoded_was e bytes head used fits is
