@@ -2,3 +2,4 @@
 pub mod NumbersWhere
 pub mod PageWords
 pub mod LeastPages
+pub mod NumbersInBytes

@@ -1,9 +1,5 @@
-//! Packets that carry records: the two codecs together, and a worked move byte by byte.
+//! A worked move byte by byte: what a channel carries for it, in both versions of the packets.
 #![tactic(auto)]
-
-mod packing;
-
-pub use packing::{put_end, put_record, records_are_payloads};
 
 #[cfg(test)]
 mod tests;

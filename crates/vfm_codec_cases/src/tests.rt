@@ -4,12 +4,11 @@
 ghost use Rattle.std.specs.Prelude.{◌≡◌, ◌<◌, ◌≤◌, IfOk};
 ghost use Rattle.vfm_types.specs.Desc.{device_count};
 
-use super::*;
 use std::alloc::Global;
 use std::test::Fail;
 use vfm_packet::{Cause, Decoded, Expect, Header, Kind, decode};
-use vfm_record::{Rec, read, shape_digest};
-use vfm_types::{Bytes64, Desc, DevShape, Flags, Job, Jobs, Name, NoMemory, Queue, Shapes};
+use vfm_record::{Rec, put_end, put_record, read, shape_digest};
+use vfm_types::{Bars, Bytes64, Desc, DevShape, Flags, Job, Jobs, Name, NoMemory, Queue, Shapes};
 
 const EXPECT: Expect = Expect {
     version: 1,
@@ -132,7 +131,7 @@ fn machine(alloc: Global) -> Result<Desc, Fail>
     let shape = DevShape {
         name: Name::of(b"a").ok_or("name")?,
         flags: Flags::of(1).ok_or("flags")?,
-        bar: 64,
+        bars: Bars::of(&[64]).ok_or("bars")?,
         window: 1,
         tells: true,
         budget: 1,

@@ -7,9 +7,9 @@ use Rattle.std.proofs.Math.Seq.{take-add}
 use Rattle.vfm_control.proofs.Encoded.{one_frame}
 use Rattle.vfm_control.specs.declared.frame.Frame.{Frame}
 use Rattle.vfm_control.specs.declared.frame.Frame.TheVariants.{Staged, Refused, Go}
-use Rattle.vfm_control.specs.Words.{IsBytes, word_at}
+use Rattle.vfm_base.specs.Words.{IsBytes, word_at}
 use Rattle.vfm_control.specs.Frame.{mark, session_of, body_bytes, frame_bytes, IsDigest, refusal_bytes, refusal_at, is_spare_zero, frame_marked, frame_at, IsEncodedBy}
-use Rattle.vfm_control.proofs.Words.{IsBytes-drop, word_32, word_64}
+use Rattle.vfm_base.proofs.NumbersInBytes.{IsBytes-drop, word_32, word_64}
 
 cond_some : (test : Bool) (o : Option Frame) (f : Frame) → cond test o None ≡ Some f → (test ≡ true) × (o ≡ Some f)
 cond_some true o f e = (refl, e)

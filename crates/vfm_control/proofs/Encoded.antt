@@ -7,7 +7,7 @@ use Rattle.std.proofs.lemmas.Nat.{from_be_bytes-to_be_bytes_4, from_be_bytes-to_
 use Rattle.vfm_types.specs.declared.fault.Refusal.{Refusal}
 use Rattle.vfm_control.specs.declared.frame.Frame.{Frame}
 use Rattle.vfm_control.specs.declared.frame.Frame.TheVariants.{Staged, Refused, Go}
-use Rattle.vfm_control.specs.Words.{word_at}
+use Rattle.vfm_base.specs.Words.{word_at}
 use Rattle.vfm_control.specs.Frame.{mark, session_of, body_bytes, frame_bytes, HasBody, IsFrame, IsRefusal, refusal_at, is_spare_zero, frame_marked, frame_at, IsEncodedBy}
 
 pub one_frame : (f g : Frame) → Some f ≡ Some g → f ≡ g

@@ -1,4 +1,3 @@
-pub mod Words
 pub mod Encoded
 pub mod Decoded
 pub mod Digests

@@ -4,7 +4,7 @@ use Rattle.std.specs.Int.{w32, w64, to_be_bytes}
 use Rattle.vfm_types.specs.declared.fault.Refusal.{Refusal}
 use Rattle.vfm_control.specs.declared.frame.Frame.{Frame}
 use Rattle.vfm_control.specs.declared.frame.Frame.TheVariants.{Staged, Refused, Go}
-use Rattle.vfm_control.specs.Words.{IsBytes, word_at}
+use Rattle.vfm_base.specs.Words.{IsBytes, word_at}
 
 -- the letters with which each frame begins, as a number: VFMS, VFMR and VFMG
 abbrev pub mark : Frame → ℕ

@@ -1,4 +1,3 @@
-pub mod Words
 pub mod Frame
 pub mod Pair
 pub mod Calls

@@ -2,11 +2,11 @@
 
 ghost use Rattle.std.specs.Prelude.{◌≡◌, ◌+◌, ◌^◌, ◌<◌, ◌≤◌, ◌↔◌, ◌++◌, length, drop, Some, IsNone};
 ghost use Rattle.std.specs.Int.{w32, w64, to_be_bytes};
-ghost use Rattle.vfm_control.specs.Words.{word_at};
 ghost use Rattle.vfm_control.specs.declared.frame.Frame.{Frame};
 ghost use Rattle.vfm_control.specs.Frame.{session_of, frame_bytes, refusal_at, refusal_bytes, frame_at, frame_marked, IsDigest, IsRefusal, IsEncodedBy, IsNoFrame};
 
 use crate::frame::{FRAME_LEN, Frame};
+use vfm_base::{u32_at, u64_at};
 use vfm_types::Refusal;
 
 /// The first four bytes of each frame as a number: `VFMS`, `VFMR` and `VFMG`.
@@ -58,25 +58,6 @@ pub fn encode(f: &Frame) -> [u8; FRAME_LEN]
         }
         Frame::Go { session, digest } => frame_with(GO, *session, *digest),
     }
-}
-
-// The number at a place, its highest byte first.
-#[tactic(auto, unfolding(crate::specs::Words::word_at))]
-fn u32_at(bytes: &[u8], place: usize) -> u32
-    requires { place + 4 ≤ length bytes.now }
-    ensures { result ≡ word_at w32 place bytes.now }
-{
-    let b = &bytes[place..place + 4];
-    u32::from_be_bytes([b[0], b[1], b[2], b[3]])
-}
-
-#[tactic(auto, unfolding(crate::specs::Words::word_at))]
-fn u64_at(bytes: &[u8], place: usize) -> u64
-    requires { place + 8 ≤ length bytes.now }
-    ensures { result ≡ word_at w64 place bytes.now }
-{
-    let b = &bytes[place..place + 8];
-    u64::from_be_bytes([b[0], b[1], b[2], b[3], b[4], b[5], b[6], b[7]])
 }
 
 // The digest of a frame that has one.

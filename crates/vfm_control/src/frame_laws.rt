@@ -4,7 +4,7 @@ ghost use Rattle.std.specs.Prelude.{◌≡◌, ◌≢◌, ℕ, List, Some, None,
 ghost use Rattle.vfm_types.specs.declared.fault.Refusal.{Refusal};
 ghost use Rattle.vfm_control.specs.declared.frame.Frame.{Frame};
 ghost use Rattle.vfm_control.specs.declared.frame.Frame.TheVariants.{Refused};
-ghost use Rattle.vfm_control.specs.Words.{IsBytes};
+ghost use Rattle.vfm_base.specs.Words.{IsBytes};
 ghost use Rattle.vfm_control.specs.Frame.{IsFrame, IsRefusal, IsEncodedBy, IsNoFrame, session_of, frame_bytes, frame_at};
 
 use crate::frame::FRAME_LEN;

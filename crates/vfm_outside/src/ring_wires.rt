@@ -4,7 +4,7 @@ ghost use Rattle.std.specs.Prelude.{◌≡◌, ◌+◌, ◌<◌, ◌≤◌, ◌^
 ghost use Rattle.std.specs.List.{filter_map};
 ghost use Rattle.std.specs.Option.{option_map};
 ghost use Rattle.vfm_outside.specs.Counts.{Rose, Includes, counted};
-ghost use Rattle.vfm_outside.specs.Told.{told_then};
+ghost use Rattle.vfm_outside.specs.Told.{with_appended};
 ghost use Rattle.vfm_outside.specs.Links.{IsNew, AreNew, ends_faults};
 ghost use Rattle.vfm_outside.specs.RingEnds.{ring_told, ring_ends, held_ring_faults, call_of, settings_of, IsMade, AreJoined, AreRows, AreNumbered, AreConnected};
 ghost use Rattle.vfm_outside.specs.RingSettings.{wires_settings};
@@ -140,7 +140,7 @@ impl Wires for RingWires {
         ensures no_memory { IsErrOf result ConnectFault.NoMemory →
             ⟦<RingWires as Wires>⟧.faults self.new ≡ ⟦<RingWires as Wires>⟧.faults self.old }
         ensures asked { (IsErrOf result ConnectFault.NoMemory → ⊥) → ⟦<RingWires as Wires>⟧.asked self.new ≡
-            told_then (⟦<RingWires as Wires>⟧.asked self.old) (channels ∷ []) }
+            with_appended (⟦<RingWires as Wires>⟧.asked self.old) (channels ∷ []) }
         ensures not_asked { IsErrOf result ConnectFault.NoMemory →
             ⟦<RingWires as Wires>⟧.asked self.new ≡ ⟦<RingWires as Wires>⟧.asked self.old }
         ensures carried { ⟦<RingWires as Wires>⟧.carried self.new ≡ ⟦<RingWires as Wires>⟧.carried self.old }

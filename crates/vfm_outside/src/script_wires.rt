@@ -4,7 +4,7 @@ ghost use Rattle.std.specs.Prelude.{◌≡◌, ◌≢◌, ◌≤◌, ◌+◌, []
 ghost use Rattle.std.specs.Option.{ForSome, option_map, option_map_or};
 ghost use Rattle.std.proofs.Props.{props};
 ghost use Rattle.vfm_outside.specs.Counts.{Rose, Includes, counted};
-ghost use Rattle.vfm_outside.specs.Told.{told_then};
+ghost use Rattle.vfm_outside.specs.Told.{with_appended};
 ghost use Rattle.vfm_outside.specs.Links.{AreNew, ends_faults};
 ghost use Rattle.vfm_outside.specs.ScriptEnds.{script_ends, EndsAreNew, held_faults};
 
@@ -69,7 +69,7 @@ impl Wires for ScriptWires {
         ensures no_memory { IsErrOf result ConnectFault.NoMemory →
             ⟦<ScriptWires as Wires>⟧.faults self.new ≡ ⟦<ScriptWires as Wires>⟧.faults self.old }
         ensures asked { (IsErrOf result ConnectFault.NoMemory → ⊥) → ⟦<ScriptWires as Wires>⟧.asked self.new ≡
-            told_then (⟦<ScriptWires as Wires>⟧.asked self.old) (channels ∷ []) }
+            with_appended (⟦<ScriptWires as Wires>⟧.asked self.old) (channels ∷ []) }
         ensures not_asked { IsErrOf result ConnectFault.NoMemory →
             ⟦<ScriptWires as Wires>⟧.asked self.new ≡ ⟦<ScriptWires as Wires>⟧.asked self.old }
         ensures carried { ⟦<ScriptWires as Wires>⟧.carried self.new ≡ ⟦<ScriptWires as Wires>⟧.carried self.old }

@@ -2,7 +2,7 @@
 
 ghost use Rattle.std.specs.Prelude.{◌≡◌, ℕ, ◌<◌, List, Option, Ok, length, take, OnOk, OnErr};
 ghost use Rattle.vfm_outside.specs.Counts.{CountsFaults};
-ghost use Rattle.vfm_outside.specs.Told.{told_then, Takes};
+ghost use Rattle.vfm_outside.specs.Told.{with_appended, Takes};
 
 use crate::Failed;
 
@@ -26,8 +26,8 @@ pub trait Sink {
 /// part of the bytes that lacks at least the last one.
 pub fn write_all<S: Sink>(out: &mut S, bytes: &[u8]) -> Result<(), Failed>
     ensures count { CountsFaults result (S.faults out.old) (S.faults out.new) }
-    ensures ok { OnOk result (S.holds out.new ≡ told_then (S.holds out.old) bytes.now) }
-    ensures failed { OnErr result ((n : ℕ) × (n < length bytes.now) × (S.holds out.new ≡ told_then (S.holds out.old) (take n bytes.now))) }
+    ensures ok { OnOk result (S.holds out.new ≡ with_appended (S.holds out.old) bytes.now) }
+    ensures failed { OnErr result ((n : ℕ) × (n < length bytes.now) × (S.holds out.new ≡ with_appended (S.holds out.old) (take n bytes.now))) }
 {
     let mut at = 0;
     while at < bytes.len() {

@@ -3,7 +3,7 @@
 ghost use Rattle.std.specs.Prelude.{◌≡◌, ℕ, ◌≤◌, List, Option, Ok, length, vec_len, IfOk, OnOk, OnErr, IfSome, take, IsErrOf};
 ghost use Rattle.vfm_outside.specs.Counts.{Rose};
 ghost use Rattle.vfm_outside.specs.Counts.{CountsFaults};
-ghost use Rattle.vfm_outside.specs.Told.{then_told, Reads};
+ghost use Rattle.vfm_outside.specs.Told.{with_prepended, Reads};
 
 use crate::{Failed, ReadFault};
 use std::alloc::Global;
@@ -39,8 +39,8 @@ pub fn read_up_to<S: Source>(
     ensures no_memory { IsErrOf result ReadFault.NoMemory → S.faults source.new ≡ S.faults source.old }
     ensures bound { IfOk result (λ bytes. vec_len bytes ≤ most) }
     ensures bytes { IfOk result (λ bytes. IfSome (S.left source.old) (λ left. bytes.items ≡ take most left)) }
-    ensures rest { IfOk result (λ bytes. S.left source.old ≡ then_told bytes.items (S.left source.new)) }
-    ensures lost { OnErr result ((bytes : List ℕ) × (length bytes ≤ most) × (S.left source.old ≡ then_told bytes (S.left source.new))) }
+    ensures rest { IfOk result (λ bytes. S.left source.old ≡ with_prepended bytes.items (S.left source.new)) }
+    ensures lost { OnErr result ((bytes : List ℕ) × (length bytes ≤ most) × (S.left source.old ≡ with_prepended bytes (S.left source.new))) }
 {
     let mut bytes = Vec::new(alloc);
     let mut buf = [0u8; PIECE];

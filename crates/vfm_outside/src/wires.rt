@@ -2,7 +2,7 @@
 
 ghost use Rattle.std.specs.Prelude.{◌≡◌, ℕ, ◌≤◌, List, [], ◌∷◌, Option, Some, OnOk, IfOk, IsErrOf};
 ghost use Rattle.vfm_outside.specs.Counts.{Rose, Includes};
-ghost use Rattle.vfm_outside.specs.Told.{told_then};
+ghost use Rattle.vfm_outside.specs.Told.{with_appended};
 ghost use Rattle.vfm_outside.specs.Links.{ToldEnds, AreNew, ends_faults};
 
 use crate::Link;
@@ -50,7 +50,7 @@ pub trait Wires {
         ensures ok { OnOk result (faults self.new ≡ faults self.old) }
         ensures failed { IsErrOf result ConnectFault.Failed → Rose (faults self.old) (faults self.new) }
         ensures no_memory { IsErrOf result ConnectFault.NoMemory → faults self.new ≡ faults self.old }
-        ensures asked { (IsErrOf result ConnectFault.NoMemory → ⊥) → asked self.new ≡ told_then (asked self.old) (channels ∷ []) }
+        ensures asked { (IsErrOf result ConnectFault.NoMemory → ⊥) → asked self.new ≡ with_appended (asked self.old) (channels ∷ []) }
         ensures not_asked { IsErrOf result ConnectFault.NoMemory → asked self.new ≡ asked self.old }
         ensures carried { carried self.new ≡ carried self.old };
 

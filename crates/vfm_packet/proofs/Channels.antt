@@ -12,12 +12,12 @@ use Rattle.vfm_packet.specs.declared.answer.Cause.{Cause}
 use Rattle.vfm_packet.specs.declared.answer.Cause.TheVariants.{Corrupt}
 use Rattle.vfm_packet.specs.declared.answer.Decoded.{Decoded}
 use Rattle.vfm_packet.specs.declared.answer.Decoded.TheVariants as answers
-use Rattle.vfm_packet.specs.Header.{carries, HasShape}
+use Rattle.vfm_packet.specs.Header.{carries, HasHeaderShape}
 use Rattle.vfm_packet.specs.Sound.{head_at, head_fault}
 use Rattle.vfm_packet.specs.Packet.{Packet, packet_at, packet_bytes, packet_size, seal_len, IsSoundPacket}
 use Rattle.vfm_packet.specs.Answer.{is_sealed, decoded, decoded_head, decoded_after, IsPartial}
 use Rattle.vfm_packet.specs.Channel.{IsCarried, all_bytes, Stands, mark_size}
-use Rattle.vfm_packet.specs.Refusal.{Refusal, Bad, Aborted, Truncated, NoEnd, AfterEnd, TooLong, is_over, Says, IsReading}
+use Rattle.vfm_packet.specs.ChannelRefusal.{ChannelRefusal, Bad, Aborted, Truncated, NoEnd, AfterEnd, TooLong, is_over, IsVerdict, IsReading}
 use Rattle.vfm_packet.specs.Reading.{Reading, ends, brings, brings_all, unfinished, after_end, on_packet, on_answer, reading_of, reading_at, reading_within}
 use Rattle.vfm_packet.proofs.Decoding.{partial_reads, refused_reads}
 use Rattle.vfm_packet.proofs.Packets.{length-packet_bytes, packet_again, packet_at-packet_bytes, after_packet}
@@ -171,7 +171,7 @@ goes_on (p ∷ ps) limit e over place rest each =
 -- an end or abort packet has no payload
 pub mark_len : (kind : Kind) (e : Expect) (p : Packet) → carries kind ≡ false → p.head.kind ≡ kind → IsSoundPacket e p → packet_size p.head ≡ mark_size e
 mark_len kind e p bare of_kind is =
-    let shape : HasShape false p.head = subst (λ (b : Bool). HasShape b p.head) (ap carries of_kind ∙ bare) is.head.header.shape in
+    let shape : HasHeaderShape false p.head = subst (λ (b : Bool). HasHeaderShape b p.head) (ap carries of_kind ∙ bare) is.head.header.shape in
     omega (arith, shape.2, ap seal_len is.head.version)
 
 stands_reads : (e : Expect) (kind : Kind) (rest more : List ℕ) (there : Stands e kind rest more)
@@ -209,42 +209,42 @@ more_reads : (limit : ℕ) (e : Expect) (over now : Bool) (place : ℕ) (rest : 
 more_reads limit e over now place rest is partial =
     step_more limit e over place rest (partial_reads e rest partial) ∙ ap (λ (o : Bool). ends (unfinished o place rest)) is
 
-pub says_reads : (refusal : Option Refusal) (limit : ℕ) (e : Expect) (over : Bool) (place : ℕ) (rest : List ℕ)
-    → Says limit e over place rest refusal → reading_at limit e over place rest ≡ ends refusal
-says_reads None limit e over place rest says =
-    end_reads limit e over place rest [] says.1 ∙ ap (λ (o : Bool). ends (after_end limit o (place + mark_size e) [])) says.0
-says_reads (Some (Bad at cause)) limit e over place rest says =
-    step_bad limit e over place rest cause (refused_reads e rest cause says.1) ∙ ap (λ (p : ℕ). ends (Some (Bad p cause))) (sym says.0)
-says_reads (Some (Aborted at)) limit e over place rest says =
-    let there = says.1.1 in
-    step_abort limit e over place rest there.packet.head (packet_size there.packet.head) (stands_reads e Abort rest says.1.0 there).0 there.of_kind
-    ∙ ap (λ (p : ℕ). ends (Some (Aborted p))) (sym says.0)
-says_reads (Some (Truncated at)) limit e over place rest says =
-    more_reads limit e over false place rest says.1 says.3 ∙ ap ends (unfinished_some place rest says.2) ∙ ap (λ (p : ℕ). ends (Some (Truncated p))) (sym says.0)
-says_reads (Some (NoEnd at)) limit e over place rest says =
-    let few : length rest < 40 = omega (arith, ap length says.2) in
-    more_reads limit e over false place rest says.1 (inl few) ∙ ap (λ (l : List ℕ). ends (unfinished false place l)) says.2 ∙ ap (λ (p : ℕ). ends (Some (NoEnd p))) (sym says.0)
-says_reads (Some (AfterEnd at)) limit e over place rest says =
-    let below : place + mark_size e < limit = omega (arith, says.0, says.1) in
-    end_reads limit e over place rest (says.2.0 ∷ says.2.1) says.2.2
-    ∙ ap ends (after_byte limit over (place + mark_size e) says.2.0 says.2.1 below)
-    ∙ ap (λ (p : ℕ). ends (Some (AfterEnd p))) (sym says.0)
-says_reads (Some TooLong) limit e over place rest says =
-    elim says.1 [
-      | inl partial ↦ more_reads limit e over true place rest says.0 partial
+pub says_reads : (refusal : Option ChannelRefusal) (limit : ℕ) (e : Expect) (over : Bool) (place : ℕ) (rest : List ℕ)
+    → IsVerdict limit e over place rest refusal → reading_at limit e over place rest ≡ ends refusal
+says_reads None limit e over place rest verdict =
+    end_reads limit e over place rest [] verdict.1 ∙ ap (λ (o : Bool). ends (after_end limit o (place + mark_size e) [])) verdict.0
+says_reads (Some (Bad at cause)) limit e over place rest verdict =
+    step_bad limit e over place rest cause (refused_reads e rest cause verdict.1) ∙ ap (λ (p : ℕ). ends (Some (Bad p cause))) (sym verdict.0)
+says_reads (Some (Aborted at)) limit e over place rest verdict =
+    let there = verdict.1.1 in
+    step_abort limit e over place rest there.packet.head (packet_size there.packet.head) (stands_reads e Abort rest verdict.1.0 there).0 there.of_kind
+    ∙ ap (λ (p : ℕ). ends (Some (Aborted p))) (sym verdict.0)
+says_reads (Some (Truncated at)) limit e over place rest verdict =
+    more_reads limit e over false place rest verdict.1 verdict.3 ∙ ap ends (unfinished_some place rest verdict.2) ∙ ap (λ (p : ℕ). ends (Some (Truncated p))) (sym verdict.0)
+says_reads (Some (NoEnd at)) limit e over place rest verdict =
+    let few : length rest < 40 = omega (arith, ap length verdict.2) in
+    more_reads limit e over false place rest verdict.1 (inl few) ∙ ap (λ (l : List ℕ). ends (unfinished false place l)) verdict.2 ∙ ap (λ (p : ℕ). ends (Some (NoEnd p))) (sym verdict.0)
+says_reads (Some (AfterEnd at)) limit e over place rest verdict =
+    let below : place + mark_size e < limit = omega (arith, verdict.0, verdict.1) in
+    end_reads limit e over place rest (verdict.2.0 ∷ verdict.2.1) verdict.2.2
+    ∙ ap ends (after_byte limit over (place + mark_size e) verdict.2.0 verdict.2.1 below)
+    ∙ ap (λ (p : ℕ). ends (Some (AfterEnd p))) (sym verdict.0)
+says_reads (Some TooLong) limit e over place rest verdict =
+    elim verdict.1 [
+      | inl partial ↦ more_reads limit e over true place rest verdict.0 partial
       | inr past ↦
           end_reads limit e over place rest past.0 past.1
-          ∙ ap (λ (o : Bool). ends (after_end limit o (place + mark_size e) past.0)) says.0
+          ∙ ap (λ (o : Bool). ends (after_end limit o (place + mark_size e) past.0)) verdict.0
           ∙ ap ends (after_limit limit (place + mark_size e) past.0 past.2)
     ]
 
 -- the one reading
-pub is_the_reading : (limit : ℕ) (e : Expect) (bytes : List ℕ) (packets : List Packet) (refusal : Option Refusal)
+pub is_the_reading : (limit : ℕ) (e : Expect) (bytes : List ℕ) (packets : List Packet) (refusal : Option ChannelRefusal)
     → IsReading limit e bytes packets refusal → reading_within limit e bytes ≡ record { packets = packets; refusal = refusal }
 is_the_reading limit e bytes packets refusal is =
     let over = is_over limit bytes in
     ap (λ (l : List ℕ). reading_at limit e (is_over limit bytes) 0 l) is.encoded
     ∙ goes_on packets limit e (is_over limit bytes) 0 is.rest is.each
     ∙ ap (λ (n : ℕ). brings_all packets (reading_at limit e (is_over limit bytes) n is.rest)) (zero-add (length (all_bytes packets)))
-    ∙ ap (brings_all packets) (says_reads refusal limit e (is_over limit bytes) (length (all_bytes packets)) is.rest is.says)
+    ∙ ap (brings_all packets) (says_reads refusal limit e (is_over limit bytes) (length (all_bytes packets)) is.rest is.verdict)
     ∙ ap (λ (ps : List Packet). let made : Reading = record { packets = ps; refusal = refusal } in made) (append-nil packets)

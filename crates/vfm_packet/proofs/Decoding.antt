@@ -9,8 +9,10 @@ use Rattle.vfm_packet.specs.declared.answer.Cause.{Cause}
 use Rattle.vfm_packet.specs.declared.answer.Cause.TheVariants.{Corrupt}
 use Rattle.vfm_packet.specs.declared.answer.Decoded.{Decoded}
 use Rattle.vfm_packet.specs.declared.answer.Decoded.TheVariants.{Packet, More, Bad}
-use Rattle.vfm_packet.specs.Header.{IsBytes, head_bytes}
-use Rattle.vfm_packet.specs.Sound.{head_at, first_failed, head_tests, head_fault}
+use Rattle.vfm_base.specs.Words.{IsBytes}
+use Rattle.vfm_packet.specs.Header.{head_bytes}
+use Rattle.vfm_base.specs.Tests.{first_failed}
+use Rattle.vfm_packet.specs.Sound.{head_at, head_tests, head_fault}
 use Rattle.vfm_packet.specs.Packet.{packet_size}
 use Rattle.vfm_packet.specs.Answer.{is_sealed, decoded, decoded_head, decoded_after, HasHeader, BeginsWith, IsPartial, HasNoHeader, IsCorrupt, IsRefused}
 use Rattle.vfm_packet.proofs.Words.{length-head_bytes}

@@ -10,9 +10,13 @@ use Rattle.vfm_packet.specs.declared.header.Kind.{Kind}
 use Rattle.vfm_packet.specs.declared.header.Kind.TheVariants.{Data, Config, End, Abort}
 use Rattle.vfm_packet.specs.declared.answer.Expect.{Expect}
 use Rattle.vfm_packet.specs.declared.answer.Cause.{Cause}
-use Rattle.vfm_packet.specs.Header.{IsBytes, kind_number, kind_of_number, carries, head_bytes, HasShape, IsVersion, IsHeader}
-use Rattle.vfm_packet.specs.Sound.{IsSound, word_at, kind_at, head_at, knows_stream, has_length, has_zeros, first_failed, head_tests, head_fault}
-use Rattle.vfm_packet.proofs.Words.{word_16, word_32, word_64, magic_of, version_of, kind_of, session_of, stream_of, index_of, length_of, spare_high_of, spare_low_of}
+use Rattle.vfm_base.specs.Words.{IsBytes}
+use Rattle.vfm_packet.specs.Header.{kind_number, kind_of_number, carries, head_bytes, HasHeaderShape, IsVersion, IsHeader}
+use Rattle.vfm_base.specs.Words.{word_at}
+use Rattle.vfm_base.specs.Tests.{first_failed}
+use Rattle.vfm_packet.specs.Sound.{IsSound, kind_at, head_at, knows_stream, has_length, has_zeros, head_tests, head_fault}
+use Rattle.vfm_base.proofs.NumbersInBytes.{word_16, word_32, word_64}
+use Rattle.vfm_packet.proofs.Words.{magic_of, version_of, kind_of, session_of, stream_of, index_of, length_of, spare_high_of, spare_low_of}
 
 -- ---- the list of tests
 
@@ -52,7 +56,7 @@ version_below : (version : ℕ) → IsVersion version → version < 2 ^ 16
 version_below version is = omega (arith, is.1)
 
 -- a header's length fits its field
-length_below : (b : Bool) (h : Header) → HasShape b h → h.length < 2 ^ 32
+length_below : (b : Bool) (h : Header) → HasHeaderShape b h → h.length < 2 ^ 32
 length_below true h shape = omega (arith, shape.1)
 length_below false h shape = omega (arith, shape.2)
 
@@ -62,11 +66,11 @@ knows_stream_from : (b : Bool) (e : Expect) (h : Header) → (IsTrue b → h.str
 knows_stream_from true e h below = lt-ltb _ _ (below refl)
 knows_stream_from false e h below = refl
 
-has_length_from : (b : Bool) (h : Header) → HasShape b h → has_length b h ≡ true
+has_length_from : (b : Bool) (h : Header) → HasHeaderShape b h → has_length b h ≡ true
 has_length_from true h shape = and_from _ _ (lt-ltb _ _ shape.0) (le-leb _ _ shape.1)
 has_length_from false h shape = refl
 
-has_zeros_from : (b : Bool) (h : Header) → HasShape b h → has_zeros b h ≡ true
+has_zeros_from : (b : Bool) (h : Header) → HasHeaderShape b h → has_zeros b h ≡ true
 has_zeros_from true h shape = refl
 has_zeros_from false h shape = and_from _ _ (and_from _ _ (eq-eqb _ _ shape.0) (eq-eqb _ _ shape.1)) (eq-eqb _ _ shape.2)
 
@@ -74,7 +78,7 @@ stream_from : (b : Bool) (e : Expect) (h : Header) → knows_stream b e h ≡ tr
 stream_from true e h known t = ltb-true _ _ known
 stream_from false e h known t = absurd cc
 
-shape_from : (b : Bool) (h : Header) → has_length b h ≡ true → has_zeros b h ≡ true → HasShape b h
+shape_from : (b : Bool) (h : Header) → has_length b h ≡ true → has_zeros b h ≡ true → HasHeaderShape b h
 shape_from true h len zeros =
     let parts = and_parts _ _ len in
     (ltb-true _ _ parts.0, leb-true _ _ parts.1)

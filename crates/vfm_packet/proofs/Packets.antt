@@ -13,10 +13,12 @@ use Rattle.vfm_packet.specs.declared.answer.Expect.{Expect}
 use Rattle.vfm_packet.specs.declared.answer.Cause.{Cause}
 use Rattle.vfm_packet.specs.declared.answer.Decoded.TheVariants as answers
 use Rattle.vfm_packet.specs.Header.{head_bytes, IsHeader}
-use Rattle.vfm_packet.specs.Sound.{head_at, first_failed, head_tests, head_fault}
+use Rattle.vfm_base.specs.Tests.{first_failed}
+use Rattle.vfm_packet.specs.Sound.{head_at, head_tests, head_fault}
 use Rattle.vfm_packet.specs.Packet.{Packet, packet_digest, seal, seal_len, packet_bytes, packet_size, packet_at, IsSoundPacket}
 use Rattle.vfm_packet.specs.Answer.{is_sealed, decoded, decoded_head, decoded_after, BeginsWith}
-use Rattle.vfm_packet.proofs.Words.{length-head_bytes, word_stays}
+use Rattle.vfm_base.proofs.NumbersInBytes.{word_stays}
+use Rattle.vfm_packet.proofs.Words.{length-head_bytes}
 use Rattle.vfm_packet.proofs.Heads.{head_at-head_bytes}
 use Rattle.vfm_packet.proofs.Decoding.{packet_reads}
 

@@ -9,13 +9,14 @@ use Rattle.vfm_packet.specs.declared.header.Kind.TheVariants.{Data, Config, End,
 use Rattle.vfm_packet.specs.declared.answer.Expect.{Expect}
 use Rattle.vfm_packet.specs.declared.answer.Decoded.{Decoded}
 use Rattle.vfm_packet.specs.declared.answer.Decoded.TheVariants as answers
-use Rattle.vfm_packet.specs.Header.{IsBytes, carries}
+use Rattle.vfm_base.specs.Words.{IsBytes}
+use Rattle.vfm_packet.specs.Header.{carries}
 use Rattle.vfm_packet.specs.Packet.{Packet, packet_at, packet_bytes, packet_size, IsSoundPacket}
 use Rattle.vfm_packet.specs.Answer.{decoded, BeginsWith, IsPartial}
 use Rattle.vfm_packet.specs.Channel.{IsCarried, all_bytes, Stands, mark_size, IsSoundChannel}
-use Rattle.vfm_packet.specs.Refusal.{Refusal, Bad, Aborted, judged, is_over, Says, IsReading}
+use Rattle.vfm_packet.specs.ChannelRefusal.{ChannelRefusal, Bad, Aborted, judged, is_over, IsVerdict, IsReading}
 use Rattle.vfm_packet.specs.Reading.{Reading, ends, brings, brings_all, unfinished, after_end, on_packet, on_answer, reading_of, reading_at, reading_within}
-use Rattle.vfm_packet.proofs.Words.{IsBytes-drop, IsBytes-take}
+use Rattle.vfm_base.proofs.NumbersInBytes.{IsBytes-drop, IsBytes-take}
 use Rattle.vfm_packet.proofs.Decoding.{Reads, reads}
 use Rattle.vfm_packet.proofs.Packets.{length-packet_bytes, packet_was}
 use Rattle.vfm_packet.proofs.Channels.{mark_len, goes_on, is_the_reading}
@@ -30,13 +31,13 @@ record Sees (limit : ℕ) (e : Expect) (over : Bool) (place : ℕ) (rest : List 
   back : List ℕ
   each : AllByRecursion (IsCarried e) r.packets
   encoded : rest ≡ all_bytes r.packets ++ back
-  says : Says limit e over (place + length (all_bytes r.packets)) back r.refusal
+  verdict : IsVerdict limit e over (place + length (all_bytes r.packets)) back r.refusal
 
-sees_nothing : (limit : ℕ) (e : Expect) (over : Bool) (place : ℕ) (rest : List ℕ) (refusal : Option Refusal)
-    → Says limit e over place rest refusal → Sees limit e over place rest (ends refusal)
-sees_nothing limit e over place rest refusal says =
+sees_nothing : (limit : ℕ) (e : Expect) (over : Bool) (place : ℕ) (rest : List ℕ) (refusal : Option ChannelRefusal)
+    → IsVerdict limit e over place rest refusal → Sees limit e over place rest (ends refusal)
+sees_nothing limit e over place rest refusal verdict =
     let stays : place ≡ place + 0 = omega arith in
-    record { back = rest; each = tt; encoded = refl; says = subst (λ (p : ℕ). Says limit e over p rest refusal) stays says }
+    record { back = rest; each = tt; encoded = refl; verdict = subst (λ (p : ℕ). IsVerdict limit e over p rest refusal) stays verdict }
 
 sees_packet : (limit : ℕ) (e : Expect) (over : Bool) (place : ℕ) (rest : List ℕ) (p : Packet) (after : List ℕ) (r : Reading)
     → IsCarried e p → rest ≡ packet_bytes p ++ after → Sees limit e over (place + packet_size p.head) after r → Sees limit e over place rest (brings p r)
@@ -47,16 +48,16 @@ sees_packet limit e over place rest p after r is parts sees =
       back = sees.back;
       each = (is, sees.each);
       encoded = parts ∙ ap (λ (l : List ℕ). packet_bytes p ++ l) sees.encoded ∙ sym (append_assoc (packet_bytes p) (all_bytes r.packets) sees.back);
-      says = subst (λ (n : ℕ). Says limit e over n sees.back r.refusal) next sees.says;
+      verdict = subst (λ (n : ℕ). IsVerdict limit e over n sees.back r.refusal) next sees.verdict;
     }
 
-says_unfinished : (limit : ℕ) (e : Expect) (over : Bool) (place : ℕ) (rest : List ℕ) → IsPartial e rest → Says limit e over place rest (unfinished over place rest)
+says_unfinished : (limit : ℕ) (e : Expect) (over : Bool) (place : ℕ) (rest : List ℕ) → IsPartial e rest → IsVerdict limit e over place rest (unfinished over place rest)
 says_unfinished limit e true place rest partial = (refl, inl partial)
 says_unfinished limit e false place [] partial = (refl, refl, refl)
 says_unfinished limit e false place (b ∷ rest) partial = (refl, refl, omega arith, partial)
 
 says_end : (limit : ℕ) (e : Expect) (over : Bool) (place : ℕ) (rest more : List ℕ) → Stands e End rest more → IsJudged limit over (place + mark_size e + length more)
-    → Says limit e over place rest (after_end limit over (place + mark_size e) more)
+    → IsVerdict limit e over place rest (after_end limit over (place + mark_size e) more)
 says_end limit e true place rest [] there total = (refl, inr ([], there, omega arith))
 says_end limit e false place rest [] there total = (refl, there)
 says_end limit e true place rest (b ∷ more) there total =
@@ -95,7 +96,7 @@ sees_kind End limit e over place rest h used go of_kind begins size total next =
     let whole = begins.whole in
     let sum : place + length rest ≡ place + mark_size e + length (drop used rest) = omega (arith, length-drop used rest) in
     sees_nothing limit e over place rest (after_end limit over (place + used) (drop used rest))
-    (subst (λ (n : ℕ). Says limit e over place rest (after_end limit over (place + n) (drop used rest))) (sym mark)
+    (subst (λ (n : ℕ). IsVerdict limit e over place rest (after_end limit over (place + n) (drop used rest))) (sym mark)
     (says_end limit e over place rest (drop used rest) stands (judged_after limit over (place + length rest) (place + mark_size e + length (drop used rest)) sum total)))
 sees_kind Abort limit e over place rest h used go of_kind begins size total next =
     let there = packet_stands e rest h used begins size in
@@ -144,8 +145,8 @@ reads_channel limit e bytes fits =
       rest = s.back;
       each = s.each;
       encoded = s.encoded;
-      says = subst (λ (n : ℕ). Says limit e (is_over limit bytes) n s.back (reading_within limit e bytes).refusal)
-          (zero-add (length (all_bytes (reading_within limit e bytes).packets))) s.says;
+      verdict = subst (λ (n : ℕ). IsVerdict limit e (is_over limit bytes) n s.back (reading_within limit e bytes).refusal)
+          (zero-add (length (all_bytes (reading_within limit e bytes).packets))) s.verdict;
     }
 
 -- ---- sound channels
@@ -161,7 +162,7 @@ sound_reads limit e bytes packets is short =
       rest = is.rest;
       each = is.each;
       encoded = judged_all limit bytes (omega arith) ∙ is.encoded;
-      says = (le-ltb limit (length bytes) short, is.ends);
+      verdict = (le-ltb limit (length bytes) short, is.ends);
     })
 
 pub reads_sound : (limit : ℕ) (e : Expect) (bytes : List ℕ) → IsBytes bytes → (reading_within limit e bytes).refusal ≡ None
@@ -169,9 +170,9 @@ pub reads_sound : (limit : ℕ) (e : Expect) (bytes : List ℕ) → IsBytes byte
 reads_sound limit e bytes fits none =
     let is = reads_channel limit e bytes fits in
     let packets = (reading_within limit e bytes).packets in
-    let says = subst (λ (r : Option Refusal). Says limit e (is_over limit bytes) (length (all_bytes (reading_within limit e bytes).packets)) is.rest r) none is.says in
-    let short : length bytes ≤ limit = ltb-false limit (length bytes) says.0 in
-    (record { rest = is.rest; each = is.each; encoded = sym (judged_all limit bytes (omega arith)) ∙ is.encoded; ends = says.1 }, short)
+    let verdict = subst (λ (r : Option ChannelRefusal). IsVerdict limit e (is_over limit bytes) (length (all_bytes (reading_within limit e bytes).packets)) is.rest r) none is.verdict in
+    let short : length bytes ≤ limit = ltb-false limit (length bytes) verdict.0 in
+    (record { rest = is.rest; each = is.each; encoded = sym (judged_all limit bytes (omega arith)) ∙ is.encoded; ends = verdict.1 }, short)
 
 -- nothing after the first byte past the limit is looked at
 pub judged_prefix : (limit : ℕ) (e : Expect) (bytes : List ℕ) → reading_within limit e (judged limit bytes) ≡ reading_within limit e bytes

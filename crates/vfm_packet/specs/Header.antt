@@ -1,13 +1,10 @@
 -- The header of a packet: its kinds, its one encoding, and which headers there are.
 use Rattle.std.specs.Prelude.{◌≡◌, ℕ, ◌^◌, ◌<◌, ◌≤◌, ◌==◌, Bool, true, false, if◌then◌else◌, Option, Some, None, List, [], ◌∷◌, ◌++◌, slice_index}
 use Rattle.std.specs.Int.{w16, w32, w64, to_be_bytes}
+use Rattle.vfm_base.specs.Words.{IsBytes}
 use Rattle.vfm_packet.specs.declared.header.Header.{Header}
 use Rattle.vfm_packet.specs.declared.header.Kind.{Kind}
 use Rattle.vfm_packet.specs.declared.header.Kind.TheVariants.{Data, Config, End, Abort}
-
--- each is a byte
-abbrev pub IsBytes : List ℕ → Type 0
-IsBytes bytes = (i : ℕ) → slice_index bytes i < 256
 
 -- the number of a kind in a header
 abbrev pub kind_number : Kind → ℕ
@@ -46,9 +43,9 @@ head_bytes h =
     ++ to_be_bytes w32 h.stream ++ to_be_bytes w32 h.index ++ to_be_bytes w32 h.length ++ spare
 
 -- a payload has 1 to 65,536 bytes; a packet that carries none has no stream, no index and no length
-abbrev pub HasShape : Bool → Header → Type 0
-HasShape true h = (0 < h.length) × (h.length ≤ 65536)
-HasShape false h = (h.stream ≡ 0) × (h.index ≡ 0) × (h.length ≡ 0)
+abbrev pub HasHeaderShape : Bool → Header → Type 0
+HasHeaderShape true h = (0 < h.length) × (h.length ≤ 65536)
+HasHeaderShape false h = (h.stream ≡ 0) × (h.index ≡ 0) × (h.length ≡ 0)
 
 -- the versions of the format that there are
 abbrev pub IsVersion : ℕ → Type 0
@@ -60,4 +57,4 @@ pub record IsHeader (h : Header) : Type 0 where
   pub session : h.session < 2 ^ 64
   pub stream : h.stream < 2 ^ 32
   pub index : h.index < 2 ^ 32
-  pub shape : HasShape (carries h.kind) h
+  pub shape : HasHeaderShape (carries h.kind) h

@@ -3,6 +3,6 @@ pub mod Sound
 pub mod Packet
 pub mod Answer
 pub mod Channel
-pub mod Refusal
+pub mod ChannelRefusal
 pub mod Reading
 pub mod Worked

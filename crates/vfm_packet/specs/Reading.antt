@@ -9,15 +9,15 @@ use Rattle.vfm_packet.specs.declared.answer.Decoded.TheVariants as answers
 use Rattle.vfm_packet.specs.Packet.{Packet, packet_at}
 use Rattle.vfm_packet.specs.Answer.{decoded}
 use Rattle.vfm_packet.specs.Channel.{channel_limit}
-use Rattle.vfm_packet.specs.Refusal.{Refusal, Bad, Aborted, Truncated, NoEnd, AfterEnd, TooLong, judged, is_over}
+use Rattle.vfm_packet.specs.ChannelRefusal.{ChannelRefusal, Bad, Aborted, Truncated, NoEnd, AfterEnd, TooLong, judged, is_over}
 
 -- what a channel brings, and why it is refused, if it is
 pub record Reading : Type 0 where
   pub packets : List Packet
-  pub refusal : Option Refusal
+  pub refusal : Option ChannelRefusal
 
 -- nothing is brought
-abbrev pub ends : Option Refusal → Reading
+abbrev pub ends : Option ChannelRefusal → Reading
 ends refusal = record { packets = []; refusal = refusal }
 
 -- a packet is brought before the rest
@@ -29,13 +29,13 @@ abbrev pub brings_all : List Packet → Reading → Reading
 brings_all ps r = record { packets = ps ++ r.packets; refusal = r.refusal }
 
 -- the bytes end before another packet is whole
-abbrev pub unfinished : Bool → ℕ → List ℕ → Option Refusal
+abbrev pub unfinished : Bool → ℕ → List ℕ → Option ChannelRefusal
 unfinished true place rest = Some TooLong
 unfinished false place [] = Some (NoEnd place)
 unfinished false place (byte ∷ rest) = Some (Truncated place)
 
 -- after an end packet
-abbrev pub after_end : ℕ → Bool → ℕ → List ℕ → Option Refusal
+abbrev pub after_end : ℕ → Bool → ℕ → List ℕ → Option ChannelRefusal
 after_end limit true place [] = Some TooLong
 after_end limit false place [] = None
 after_end limit over place (byte ∷ rest) = if nat_lt place limit then Some (AfterEnd place) else Some TooLong

@@ -1,6 +1,8 @@
 -- Sound headers: what is expected of them, and the tests of forty bytes in their order.
 use Rattle.std.specs.Prelude.{◌≡◌, ℕ, ◌<◌, ◌==◌, ◌&&◌, Bool, true, false, if◌then◌else◌, IsTrue, nat_lt, nat_le, is_some, unwrap_or, Option, Some, None, List, [], ◌∷◌, take, drop}
-use Rattle.std.specs.Int.{Width, w16, w32, w64, byte_len, from_be_bytes}
+use Rattle.std.specs.Int.{w16, w32, w64}
+use Rattle.vfm_base.specs.Words.{word_at}
+use Rattle.vfm_base.specs.Tests.{Test, first_failed}
 use Rattle.vfm_packet.specs.declared.header.Header.{Header}
 use Rattle.vfm_packet.specs.declared.header.Kind.{Kind}
 use Rattle.vfm_packet.specs.declared.header.Kind.TheVariants.{Abort}
@@ -15,10 +17,6 @@ pub record IsSound (e : Expect) (h : Header) : Type 0 where
   pub version : h.version ≡ e.version
   pub session : h.session ≡ e.session
   pub stream : IsTrue (carries h.kind) → h.stream < e.streams
-
--- the number that stands at a place, its highest byte first
-unfoldable pub word_at : Width → ℕ → List ℕ → ℕ
-word_at w place bytes = from_be_bytes w (take (byte_len w) (drop place bytes))
 
 -- the kind that stands in a header; where there is none, this isn't asked
 abbrev pub kind_at : List ℕ → Kind
@@ -50,13 +48,8 @@ abbrev pub has_zeros : Bool → Header → Bool
 has_zeros true h = true
 has_zeros false h = h.stream == 0 && h.index == 0 && h.length == 0
 
--- the cause of the first test that doesn't hold
-abbrev pub first_failed : List (Bool × Cause) → Option Cause
-first_failed [] = None
-first_failed (test ∷ tests) = if test.0 then first_failed tests else Some test.1
-
 -- the tests of forty bytes and of the header that they encode, in their order
-abbrev pub head_tests : Expect → List ℕ → Header → List (Bool × Cause)
+abbrev pub head_tests : Expect → List ℕ → Header → List (Test Cause)
 head_tests e bytes h =
     (word_at w32 0 bytes == 0x56464d44, causes.Magic)
     ∷ (h.version == e.version, causes.Version)

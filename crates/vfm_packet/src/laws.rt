@@ -11,11 +11,12 @@ ghost use Rattle.vfm_packet.specs.declared.header.Kind.TheVariants.{End, Abort};
 ghost use Rattle.vfm_packet.specs.declared.answer.Expect.{Expect};
 ghost use Rattle.vfm_packet.specs.declared.answer.Cause.{Cause};
 ghost use Rattle.vfm_packet.specs.declared.answer.Decoded.TheVariants as answers;
-ghost use Rattle.vfm_packet.specs.Header.{IsBytes, IsHeader, carries, head_bytes};
+ghost use Rattle.vfm_base.specs.Words.{IsBytes};
+ghost use Rattle.vfm_packet.specs.Header.{IsHeader, carries, head_bytes};
 ghost use Rattle.vfm_packet.specs.Packet.{Packet, packet_at, packet_bytes, packet_size, IsSoundPacket};
 ghost use Rattle.vfm_packet.specs.Answer.{decoded};
 ghost use Rattle.vfm_packet.specs.Channel.{channel_limit, IsCarried, all_bytes, IsSoundChannel};
-ghost use Rattle.vfm_packet.specs.Refusal.{Refusal, Bad, Aborted, judged, IsReading, is_over};
+ghost use Rattle.vfm_packet.specs.ChannelRefusal.{ChannelRefusal, Bad, Aborted, judged, IsReading, is_over};
 ghost use Rattle.vfm_packet.specs.Reading.{Reading, ends, brings, brings_all, unfinished, after_end, reading_at, reading_within, reading};
 
 use crate::header::CHANNEL_LIMIT;
@@ -70,7 +71,7 @@ pub fn answer_stays()
 pub fn one_reading()
     ensures some { (limit : ℕ) (e : Expect) (bytes : List ℕ) → IsBytes bytes
         → IsReading limit e bytes (reading_within limit e bytes).packets (reading_within limit e bytes).refusal }
-    ensures only { (limit : ℕ) (e : Expect) (bytes : List ℕ) (packets : List Packet) (refusal : Option Refusal)
+    ensures only { (limit : ℕ) (e : Expect) (bytes : List ℕ) (packets : List Packet) (refusal : Option ChannelRefusal)
         → IsReading limit e bytes packets refusal
         → reading_within limit e bytes ≡ record { packets = packets; refusal = refusal } }
 {}

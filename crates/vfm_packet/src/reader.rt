@@ -3,7 +3,8 @@
 ghost use Rattle.std.specs.Prelude.{◌≡◌, ◌+◌, ◌≤◌, ◌↔◌, ◌≢◌, ℕ, length, MatchResult, Some, None};
 ghost use Rattle.std.specs.Int.{w16, w32, w64};
 ghost use Rattle.vfm_packet.specs.Header.{carries};
-ghost use Rattle.vfm_packet.specs.Sound.{word_at, head_at, head_fault, knows_stream, has_length, has_zeros};
+ghost use Rattle.vfm_base.specs.Words.{word_at};
+ghost use Rattle.vfm_packet.specs.Sound.{head_at, head_fault, knows_stream, has_length, has_zeros};
 ghost use Rattle.vfm_packet.specs.Packet.{packet_size};
 ghost use Rattle.vfm_packet.specs.Answer.{decoded, decoded_head, is_sealed, BeginsWith, IsPartial, IsRefused, IsCorrupt};
 ghost use Rattle.vfm_packet.specs.declared.header.Header.{Header};
@@ -12,37 +13,10 @@ ghost use Rattle.vfm_packet.specs.declared.answer.Cause.{Cause};
 use crate::answer::{Cause, Decoded, Expect};
 use crate::header::{HEAD_LEN, Header, Kind, PAYLOAD_LIMIT, packet_size, seal_len};
 use crate::writer::{encode_head, seal};
+use vfm_base::{u16_at, u32_at, u64_at};
 
 /// The first four bytes of a header, `VFMD`, as a number.
 const MAGIC: u32 = 0x5646_4d44;
-
-// The number at a place of a header, its highest byte first.
-#[tactic(auto, unfolding(crate::specs::Sound::word_at))]
-fn u16_at(bytes: &[u8], place: usize) -> u16
-    requires { place + 2 ≤ length bytes.now }
-    ensures { result ≡ word_at w16 place bytes.now }
-{
-    let b = &bytes[place..place + 2];
-    u16::from_be_bytes([b[0], b[1]])
-}
-
-#[tactic(auto, unfolding(crate::specs::Sound::word_at))]
-fn u32_at(bytes: &[u8], place: usize) -> u32
-    requires { place + 4 ≤ length bytes.now }
-    ensures { result ≡ word_at w32 place bytes.now }
-{
-    let b = &bytes[place..place + 4];
-    u32::from_be_bytes([b[0], b[1], b[2], b[3]])
-}
-
-#[tactic(auto, unfolding(crate::specs::Sound::word_at))]
-fn u64_at(bytes: &[u8], place: usize) -> u64
-    requires { place + 8 ≤ length bytes.now }
-    ensures { result ≡ word_at w64 place bytes.now }
-{
-    let b = &bytes[place..place + 8];
-    u64::from_be_bytes([b[0], b[1], b[2], b[3], b[4], b[5], b[6], b[7]])
-}
 
 // Whether a packet of this kind carries a payload.
 fn carries(kind: Kind) -> bool

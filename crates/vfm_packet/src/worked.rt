@@ -4,7 +4,7 @@
 
 ghost use Rattle.std.specs.Prelude.{◌≡◌, ◌++◌, Some, None, [], ◌∷◌, map, take};
 ghost use Rattle.vfm_packet.specs.declared.answer.Cause.TheVariants as causes;
-ghost use Rattle.vfm_packet.specs.Refusal.{Bad, Aborted, Truncated, NoEnd, AfterEnd, TooLong};
+ghost use Rattle.vfm_packet.specs.ChannelRefusal.{Bad, Aborted, Truncated, NoEnd, AfterEnd, TooLong};
 ghost use Rattle.vfm_packet.specs.Reading.{reading_within};
 ghost use Rattle.vfm_packet.specs.Worked.{expected, head_of, data_packet, config_packet, end_packet, abort_packet, no_packet};
 ghost use Rattle.vfm_packet.specs.Worked.{expected_sealed, sealed_data, sealed_end, sealed_abort, changed_data, changed_end, changed_abort};

@@ -14,7 +14,7 @@ use Rattle.vfm_base.specs.Words.{IsBytes, word_at}
 use Rattle.vfm_record.specs.Record.{Record, record_bytes, KeepsBell, shape_of_stream, IsRecordOf}
 use Rattle.vfm_record.specs.Tests.{Test, tag_of, tag_at, keeps_bell, number_of, page_tests, block_tests, engine_tests, pending_tests, config_tests, fault_after, record_fault, record_with, record_after, record_at}
 use Rattle.vfm_base.specs.Tests.{first_failed}
-use Rattle.vfm_record.proofs.Words.{word_16, word_32, word_64, IsBytes-drop}
+use Rattle.vfm_base.proofs.NumbersInBytes.{word_16, word_32, word_64, IsBytes-drop}
 use Rattle.vfm_record.proofs.Pairs.{length-pairs_of, pairs_fit, pending_encoded}
 
 -- ---- the list of tests

@@ -1,4 +1,3 @@
-pub mod Words
 pub mod Pairs
 pub mod Hashing
 pub mod Found

@@ -7,7 +7,7 @@ use Rattle.std.proofs.lemmas.Nat.{from_be_bytes-to_be_bytes_4}
 use Rattle.std.proofs.Math.Seq.{take-add}
 use Rattle.vfm_base.specs.Words.{IsBytes, word_at}
 use Rattle.vfm_record.specs.Record.{Pending, record_bytes, pair_bytes, FitsPair, pairs_of}
-use Rattle.vfm_record.proofs.Words.{IsBytes-drop, word_32, word-drop}
+use Rattle.vfm_base.proofs.NumbersInBytes.{IsBytes-drop, word_32, word-drop}
 
 pub length-pairs_of : (n : ℕ) (bytes : List ℕ) → length (pairs_of n bytes) ≡ n
 unfolding pairs_of

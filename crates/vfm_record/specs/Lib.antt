@@ -3,3 +3,4 @@ pub mod Tests
 pub mod Writing
 pub mod Hashing
 pub mod Shape
+pub mod Packing

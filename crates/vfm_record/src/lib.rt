@@ -2,12 +2,13 @@
 //! at which place, and the digest by which both ends of a move find out whether they have the same machine.
 //!
 //! The format stands in `specs/`: `Record` has the records, their encoding and which of them a stream can have, `Tests`
-//! the tests of some bytes in their order and what bytes say that pass them, `Writing` which records can be written, and
-//! `Shape` the text that the digest is of. The laws that join them are the functions of `laws.rt`. Only writing takes
+//! the tests of some bytes in their order and what bytes say that pass them, `Writing` which records can be written, `Shape` the text that the digest is of, and
+//! `Packing` the packet of a record. The laws that join them are the functions of `laws.rt`. Only writing takes
 //! memory.
 #![tactic(auto)]
 
 mod laws;
+mod packing;
 mod reader;
 mod record;
 mod shape;
@@ -17,6 +18,7 @@ mod writer;
 pub use laws::{
     one_encoding, read_is_written, size_of_a_record, what_can_be_written, written_is_read,
 };
+pub use packing::{put_end, put_record, records_are_payloads};
 pub use reader::{pending_at, read};
 pub use record::{Rec, RecordFault};
 pub use shape::shape_digest;

@@ -3,19 +3,19 @@ use Rattle.std.proofs.Common.{◌≡◌, ◌∙◌, refl, sym, ap, ℕ, ◌+◌,
 use Rattle.std.proofs.lemmas.List.{take-append-drop, drop-drop, take_rest, length-append, take_at, drop_at, drop_all}
 use Rattle.std.proofs.Math.Seq.{take-add}
 use borrow.Rule.Slice.PartMut.{put_mid}
-use Rattle.vfm_outside.specs.Told.{told_then, told_then-told_then}
+use Rattle.vfm_outside.specs.Told.{with_appended, with_appended-with_appended}
 use Rattle.vfm_send.specs.Sends.{SentPrefix}
 
 -- what was given stays where some of what is left is sent
 pub given_stays : (start now : Option (List ℕ)) (items lent : List ℕ) (at k : ℕ) → lent ≡ items
-    → now ≡ told_then start (take k (take (length lent - at) (drop at lent)))
-    → told_then now (drop (at + k) items) ≡ told_then start (drop at items)
+    → now ≡ with_appended start (take k (take (length lent - at) (drop at lent)))
+    → with_appended now (drop (at + k) items) ≡ with_appended start (drop at items)
 given_stays start now items lent at k same sent =
     let piece : take (length lent - at) (drop at lent) ≡ drop at items = take_rest lent at ∙ ap (λ (l : List ℕ). drop at l) same in
-    ap (λ (o : Option (List ℕ)). told_then o (drop (at + k) items)) (sent ∙ ap (λ (l : List ℕ). told_then start (take k l)) piece)
-    ∙ told_then-told_then start (take k (drop at items)) (drop (at + k) items)
-    ∙ ap (λ (l : List ℕ). told_then start (take k (drop at items) ++ l)) (sym (drop-drop k at items))
-    ∙ ap (told_then start) (take-append-drop k (drop at items))
+    ap (λ (o : Option (List ℕ)). with_appended o (drop (at + k) items)) (sent ∙ ap (λ (l : List ℕ). with_appended start (take k l)) piece)
+    ∙ with_appended-with_appended start (take k (drop at items)) (drop (at + k) items)
+    ∙ ap (λ (l : List ℕ). with_appended start (take k (drop at items) ++ l)) (sym (drop-drop k at items))
+    ∙ ap (with_appended start) (take-append-drop k (drop at items))
 
 -- a list, and a prefix of what follows it, are a prefix of both
 pub take-after : (first rest : List ℕ) (n k : ℕ) → length first ≡ n → take (n + k) (first ++ rest) ≡ first ++ take k rest
@@ -26,15 +26,15 @@ take-after first rest n k len =
 
 -- all that was left is sent, and a prefix of the mark
 pub prefix_more : (start mid now : Option (List ℕ)) (left mark : List ℕ) (k : ℕ)
-    → mid ≡ told_then start left → now ≡ told_then mid (take k mark) → k ≤ length mark → SentPrefix start now (left ++ mark)
+    → mid ≡ with_appended start left → now ≡ with_appended mid (take k mark) → k ≤ length mark → SentPrefix start now (left ++ mark)
 prefix_more start mid now left mark k all more within = record {
   count = length left + k;
   within = omega (arith, length-append left mark);
   sent =
       more
-      ∙ ap (λ (o : Option (List ℕ)). told_then o (take k mark)) all
-      ∙ told_then-told_then start left (take k mark)
-      ∙ ap (told_then start) (sym (take-after left mark (length left) k refl));
+      ∙ ap (λ (o : Option (List ℕ)). with_appended o (take k mark)) all
+      ∙ with_appended-with_appended start left (take k mark)
+      ∙ ap (with_appended start) (sym (take-after left mark (length left) k refl));
 }
 
 -- the bytes of a mark in its array

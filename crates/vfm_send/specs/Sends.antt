@@ -2,7 +2,7 @@
 use Rattle.std.specs.Prelude.{◌≡◌, ℕ, ◌≤◌, Bool, Option, List, [], length, take, drop, if◌then◌else◌}
 use Rattle.vfm_packet.specs.declared.header.Kind.TheVariants.{End, Abort}
 use Rattle.vfm_packet.specs.Packet.{Packet}
-use Rattle.vfm_outside.specs.Told.{told_then}
+use Rattle.vfm_outside.specs.Told.{with_appended}
 use Rattle.vfm_send.specs.declared.sender.Sender.{Sender}
 
 -- the link of a sender
@@ -19,13 +19,13 @@ left sender = drop sender.at sender.outbox.items
 
 -- all that was given to the link and to its sender so far, by what the link tells that it sent
 abbrev pub given : {L : Type 0} → (L → Option (List ℕ)) → Sender L → Option (List ℕ)
-given sent sender = told_then (sent sender.link) (left sender)
+given sent sender = with_appended (sent sender.link) (left sender)
 
 -- a prefix of these bytes was sent
 pub record SentPrefix (before now : Option (List ℕ)) (bytes : List ℕ) : Type 0 where
   pub count : ℕ
   pub within : count ≤ length bytes
-  pub sent : now ≡ told_then before (take count bytes)
+  pub sent : now ≡ with_appended before (take count bytes)
 
 -- the packet that ends a channel of this session and version, or says that the sender gave up
 abbrev pub mark_of : Bool → ℕ → ℕ → Packet

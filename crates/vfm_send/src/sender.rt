@@ -24,7 +24,7 @@ pub struct Sender<L> {
 impl<L: Link> Sender<L> {
     ghost use Rattle.std.specs.Prelude.{◌≡◌, ◌+◌, ◌<◌, ◌≤◌, ◌⊎◌, ◌||◌, [], ◌++◌, true, false, IsTrue, IsErr, OnOk, OnErr, is_err, length, vec_len, vec_capacity};
     ghost use Rattle.vfm_outside.specs.Counts.{Rose};
-    ghost use Rattle.vfm_outside.specs.Told.{told_then};
+    ghost use Rattle.vfm_outside.specs.Told.{with_appended};
     ghost use Rattle.vfm_packet.specs.Header.{IsHeader, carries};
     ghost use Rattle.vfm_packet.specs.Packet.{packet_bytes, packet_size};
     ghost use Rattle.vfm_send.specs.Sends.{link_of, has_failed, left, given, SentPrefix, mark_of};
@@ -71,7 +71,7 @@ impl<L: Link> Sender<L> {
         // what was given stays: what is no longer left is what was sent
         ensures given { given L.sent self.new ≡ given L.sent self.old }
         ensures all { OnOk result (left self.new ≡ []) }
-        ensures sent { OnOk result (L.sent (link_of self.new) ≡ told_then (L.sent (link_of self.old)) (left self.old)) }
+        ensures sent { OnOk result (L.sent (link_of self.new) ≡ with_appended (L.sent (link_of self.old)) (left self.old)) }
         ensures prefix { OnErr result (SentPrefix (L.sent (link_of self.old)) (L.sent (link_of self.new)) (left self.old)) }
         // a fault comes only where the link's count rose, in this call or an earlier one, and the sender is silent after it
         ensures fault { OnErr result ((has_failed self.old ≡ true)
@@ -105,7 +105,7 @@ impl<L: Link> Sender<L> {
     /// sender gave up, and finishes the link. It takes no memory. At `LinkFault` the link failed in this call or in an
     /// earlier one, and a prefix of all that was sent.
     pub fn end(&mut self, abort: bool, session: u64, version: u16) -> Result<(), LinkFault>
-        ensures sent { OnOk result (L.sent (link_of self.new) ≡ told_then (L.sent (link_of self.old))
+        ensures sent { OnOk result (L.sent (link_of self.new) ≡ with_appended (L.sent (link_of self.old))
             (left self.old ++ packet_bytes (mark_of abort session version))) }
         ensures all { OnOk result (left self.new ≡ []) }
         ensures prefix { OnErr result (SentPrefix (L.sent (link_of self.old)) (L.sent (link_of self.new))

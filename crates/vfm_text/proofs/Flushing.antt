@@ -3,12 +3,12 @@ use Rattle.std.proofs.Common.{◌≡◌, ℕ, ◌<◌, ◌≤◌, List, [], ◌+
 use Rattle.std.specs.Prelude.{Option, Result, MatchResult, OnOk, OnErr, Ok, Err}
 use Rattle.std.proofs.lemmas.List.{take-append-drop}
 use Rattle.vfm_outside.specs.Counts.{Rose, CountsFaults}
-use Rattle.vfm_outside.specs.Told.{told_then, told_then-told_then}
+use Rattle.vfm_outside.specs.Told.{with_appended, with_appended-with_appended}
 use Rattle.vfm_outside.specs.Tells.{SinkTells}
 use Rattle.vfm_text.specs.Buffered.{Buffered, Buffers, Spills}
 
 -- a prefix of the buffer was written, and then a write failed
-pub flush_spills : (before : Buffered) (now : SinkTells) (text : List ℕ) (n : ℕ) → now.holds ≡ told_then before.sink.holds (take n before.bytes)
+pub flush_spills : (before : Buffered) (now : SinkTells) (text : List ℕ) (n : ℕ) → now.holds ≡ with_appended before.sink.holds (take n before.bytes)
     → before.sink.faults ≤ now.faults → Rose before.sink.faults now.faults → Spills before text now
 flush_spills before now text n e later rose =
     record {
@@ -23,37 +23,37 @@ flush_spills before now text n e later rose =
 -- what a flush did that went well: the buffer is empty, and the sink has what was in it
 pub record IsFlushed (before after : Buffered) : Type 0 where
   pub empty : after.bytes ≡ []
-  pub taken : after.sink.holds ≡ told_then before.sink.holds before.bytes
+  pub taken : after.sink.holds ≡ with_appended before.sink.holds before.bytes
   pub count : after.sink.faults ≡ before.sink.faults
 
 -- the buffer was written, and then all of a long piece
 pub long_buffers : (before flushed : Buffered) (now : SinkTells) (text : List ℕ) → IsFlushed before flushed
-    → now.holds ≡ told_then flushed.sink.holds text → now.faults ≡ flushed.sink.faults → Buffers before text (record { bytes = flushed.bytes; sink = now })
+    → now.holds ≡ with_appended flushed.sink.holds text → now.faults ≡ flushed.sink.faults → Buffers before text (record { bytes = flushed.bytes; sink = now })
 long_buffers before flushed now text is f d =
     record {
       given = before.bytes ++ text;
       whole = sym (append-nil (before.bytes ++ text)) ∙ ap (λ t. (before.bytes ++ text) ++ t) (sym is.empty);
-      taken = f ∙ (ap (λ t. told_then t text) is.taken ∙ told_then-told_then before.sink.holds before.bytes text);
+      taken = f ∙ (ap (λ t. with_appended t text) is.taken ∙ with_appended-with_appended before.sink.holds before.bytes text);
       count = d ∙ is.count;
     }
 
 -- the buffer was written, and then a prefix of a long piece, and a write failed
 pub long_spills : (before flushed : Buffered) (now : SinkTells) (text : List ℕ) (n : ℕ) → IsFlushed before flushed
-    → now.holds ≡ told_then flushed.sink.holds (take n text) → flushed.sink.faults ≤ now.faults → Rose flushed.sink.faults now.faults → Spills before text now
+    → now.holds ≡ with_appended flushed.sink.holds (take n text) → flushed.sink.faults ≤ now.faults → Rose flushed.sink.faults now.faults → Spills before text now
 long_spills before flushed now text n is f later rose =
     record {
       given = before.bytes ++ take n text;
       lost = drop n text;
       whole = ap (λ t. before.bytes ++ t) (sym (take-append-drop n text)) ∙ sym (append_assoc before.bytes (take n text) (drop n text));
-      taken = f ∙ (ap (λ t. told_then t (take n text)) is.taken ∙ told_then-told_then before.sink.holds before.bytes (take n text));
+      taken = f ∙ (ap (λ t. with_appended t (take n text)) is.taken ∙ with_appended-with_appended before.sink.holds before.bytes (take n text));
       later = omega (arith, later, is.count);
       rose = omega (arith, rose, is.count);
     }
 
 -- the buffer was written, and then a long piece, as that went; a is what else is known
 pub long_writes : {T E A : Type 0} (before flushed : Buffered) (now : SinkTells) (r : Result T E) (text : List ℕ) → A → IsFlushed before flushed
-    → CountsFaults r flushed.sink.faults now.faults → OnOk r (now.holds ≡ told_then flushed.sink.holds text)
-    → OnErr r ((n : ℕ) × (n < length text) × (now.holds ≡ told_then flushed.sink.holds (take n text)))
+    → CountsFaults r flushed.sink.faults now.faults → OnOk r (now.holds ≡ with_appended flushed.sink.holds text)
+    → OnErr r ((n : ℕ) × (n < length text) × (now.holds ≡ with_appended flushed.sink.holds (take n text)))
     → MatchResult r (λ _. A × Buffers before text (record { bytes = flushed.bytes; sink = now })) (λ _. A × Spills before text now)
 long_writes before flushed now (Ok x) text a is count ok failed = (a, long_buffers before flushed now text is ok count.ok)
 long_writes before flushed now (Err x) text a is count ok failed =

@@ -1,7 +1,7 @@
 -- A text that was buffered and then flushed is printed, or a prefix of it is.
 use Rattle.std.proofs.Common.{◌≡◌, ℕ, List, [], ◌++◌, ap, sym, ◌∙◌, append_assoc, arith}
 use Rattle.std.specs.Prelude.{Result, Ok, Err}
-use Rattle.vfm_outside.specs.Told.{told_then, told_then-told_then}
+use Rattle.vfm_outside.specs.Told.{with_appended, with_appended-with_appended}
 use Rattle.vfm_outside.specs.Tells.{SinkTells}
 use Rattle.vfm_text.specs.Buffered.{Buffered, Buffers, Spills}
 use Rattle.vfm_text.specs.Prints.{Prints}
@@ -12,7 +12,7 @@ printed {T} {E} {before} {after} {now} {text} (Ok x) none p q =
     let whole = ap (λ t. t ++ text) (sym none) ∙ p.whole in
     record {
       count = record { never_falls = omega (arith, q.count.never_falls, p.count); ok = q.count.ok ∙ p.count; failed = tt };
-      ok = q.ok ∙ (ap (λ t. told_then t after.bytes) p.taken ∙ (told_then-told_then before.sink.holds p.given after.bytes ∙ ap (told_then before.sink.holds) (sym whole)));
+      ok = q.ok ∙ (ap (λ t. with_appended t after.bytes) p.taken ∙ (with_appended-with_appended before.sink.holds p.given after.bytes ∙ ap (with_appended before.sink.holds) (sym whole)));
       failed = tt;
     }
 printed {T} {E} {before} {after} {now} {text} (Err x) none p q =
@@ -25,7 +25,7 @@ printed {T} {E} {before} {after} {now} {text} (Err x) none p q =
         written = p.given ++ cut.written;
         lost = cut.lost;
         whole = whole ∙ (ap (λ t. p.given ++ t) cut.whole ∙ sym (append_assoc p.given cut.written cut.lost));
-        taken = cut.taken ∙ (ap (λ t. told_then t cut.written) p.taken ∙ told_then-told_then before.sink.holds p.given cut.written);
+        taken = cut.taken ∙ (ap (λ t. with_appended t cut.written) p.taken ∙ with_appended-with_appended before.sink.holds p.given cut.written);
       };
     }
 

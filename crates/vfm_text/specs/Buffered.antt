@@ -1,7 +1,7 @@
 -- What a writer that buffers its text before a sink has done.
 use Rattle.std.specs.Prelude.{◌≡◌, ℕ, ◌≤◌, List, ◌++◌, Option}
 use Rattle.vfm_outside.specs.Counts.{Rose}
-use Rattle.vfm_outside.specs.Told.{told_then}
+use Rattle.vfm_outside.specs.Told.{with_appended}
 use Rattle.vfm_outside.specs.Tells.{SinkTells, sink_tells}
 
 -- what such a writer is: the bytes in its buffer, and what its sink reports
@@ -16,7 +16,7 @@ buffered bytes sink = record { bytes = bytes; sink = sink }
 pub record Buffers (before : Buffered) (text : List ℕ) (after : Buffered) : Type 0 where
   pub given : List ℕ
   pub whole : before.bytes ++ text ≡ given ++ after.bytes
-  pub taken : after.sink.holds ≡ told_then before.sink.holds given
+  pub taken : after.sink.holds ≡ with_appended before.sink.holds given
   pub count : after.sink.faults ≡ before.sink.faults
 
 -- The sink was given a prefix of what was buffered and this text after it, and a write failed.
@@ -24,6 +24,6 @@ pub record Spills (before : Buffered) (text : List ℕ) (now : SinkTells) : Type
   pub given : List ℕ
   pub lost : List ℕ
   pub whole : before.bytes ++ text ≡ given ++ lost
-  pub taken : now.holds ≡ told_then before.sink.holds given
+  pub taken : now.holds ≡ with_appended before.sink.holds given
   pub later : before.sink.faults ≤ now.faults
   pub rose : Rose before.sink.faults now.faults

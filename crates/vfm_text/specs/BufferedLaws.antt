@@ -1,14 +1,14 @@
 -- How buffered texts add up.
 use Rattle.std.specs.Prelude.{ℕ, List, [], ◌++◌, refl}
 use Rattle.std.proofs.Common.{ap, sym, ◌∙◌, append_assoc, append-nil, arith}
-use Rattle.vfm_outside.specs.Told.{told_then, told_then-told_then, told_then-nil}
+use Rattle.vfm_outside.specs.Told.{with_appended, with_appended-with_appended, with_appended-nil}
 use Rattle.vfm_outside.specs.Tells.{SinkTells}
 use Rattle.vfm_text.specs.Buffered.{Buffered, Buffers, Spills}
 
 -- no text changes nothing
 pub buffers_nothing : (before : Buffered) → Buffers before [] before
 buffers_nothing before =
-    record { given = []; whole = append-nil before.bytes; taken = sym (told_then-nil before.sink.holds); count = refl }
+    record { given = []; whole = append-nil before.bytes; taken = sym (with_appended-nil before.sink.holds); count = refl }
 
 -- two texts are one
 pub buffers_more : {a b c : Buffered} {x y : List ℕ} → Buffers a x b → Buffers b y c → Buffers a (x ++ y) c
@@ -16,7 +16,7 @@ buffers_more {a} {b} {c} {x} {y} p q =
     record {
       given = p.given ++ q.given;
       whole = sym (append_assoc a.bytes x y) ∙ (ap (λ t. t ++ y) p.whole ∙ (append_assoc p.given b.bytes y ∙ (ap (λ t. p.given ++ t) q.whole ∙ sym (append_assoc p.given q.given c.bytes))));
-      taken = q.taken ∙ (ap (λ t. told_then t q.given) p.taken ∙ told_then-told_then a.sink.holds p.given q.given);
+      taken = q.taken ∙ (ap (λ t. with_appended t q.given) p.taken ∙ with_appended-with_appended a.sink.holds p.given q.given);
       count = q.count ∙ p.count;
     }
 
@@ -27,7 +27,7 @@ spills_after {a} {b} {x} {y} {now} p q =
       given = p.given ++ q.given;
       lost = q.lost;
       whole = sym (append_assoc a.bytes x y) ∙ (ap (λ t. t ++ y) p.whole ∙ (append_assoc p.given b.bytes y ∙ (ap (λ t. p.given ++ t) q.whole ∙ sym (append_assoc p.given q.given q.lost))));
-      taken = q.taken ∙ (ap (λ t. told_then t q.given) p.taken ∙ told_then-told_then a.sink.holds p.given q.given);
+      taken = q.taken ∙ (ap (λ t. with_appended t q.given) p.taken ∙ with_appended-with_appended a.sink.holds p.given q.given);
       later = omega (arith, q.later, p.count);
       rose = omega (arith, q.rose, p.count);
     }

@@ -2,7 +2,7 @@
 
 ghost use Rattle.std.specs.Prelude.{◌≡◌, ℕ, ◌+◌, ◌<◌, ◌≤◌, ◌↔◌, List, [], ◌++◌, length, take, IsTrue, OnOk, OnErr};
 ghost use Rattle.vfm_outside.specs.Counts.{CountsFaults};
-ghost use Rattle.vfm_outside.specs.Told.{told_then};
+ghost use Rattle.vfm_outside.specs.Told.{with_appended};
 
 use std::marker::Model;
 use vfm_outside::{Failed, Sink, write_all};
@@ -66,9 +66,9 @@ impl TextBuffer {
     /// buffer.
     pub fn flush<S: Sink>(&mut self, out: &mut S) -> Result<(), Failed>
         ensures count { CountsFaults result (S.faults out.old) (S.faults out.new) }
-        ensures ok { OnOk result (S.holds out.new ≡ told_then (S.holds out.old) self.old) }
+        ensures ok { OnOk result (S.holds out.new ≡ with_appended (S.holds out.old) self.old) }
         ensures empty { OnOk result (self.new ≡ []) }
-        ensures failed { OnErr result ((n : ℕ) × (n < length self.old) × (S.holds out.new ≡ told_then (S.holds out.old) (take n self.old))) }
+        ensures failed { OnErr result ((n : ℕ) × (n < length self.old) × (S.holds out.new ≡ with_appended (S.holds out.old) (take n self.old))) }
         ensures kept { OnErr result (self.new ≡ self.old) }
     {
         write_all(out, self.as_slice())?;

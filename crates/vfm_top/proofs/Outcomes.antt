@@ -10,7 +10,7 @@ use Rattle.vfm_types.specs.declared.fault.DescFault.TheVariants.{NoMemory as Mem
 use Rattle.vfm_types.specs.Valid.{IsValid}
 use Rattle.vfm_types.specs.Phases.{is_joint, is_last_begun}
 use Rattle.vfm_plain.specs.Ended.{is_last_ended}
-use Rattle.vfm_outside.specs.Told.{then_told}
+use Rattle.vfm_outside.specs.Told.{with_prepended}
 use Rattle.vfm_outside.specs.Tells.{SourceTells}
 use Rattle.vfm_plain.specs.Report.{Made, source_past}
 use Rattle.vfm_desc.specs.Reading.{Gives}
@@ -91,7 +91,7 @@ read_is : (given items : List ℕ) (left : Option (List ℕ)) → given ≡ item
 read_is given items None same first = tt
 read_is given items (Some all) same first = same ∙ first
 
-rest_is : (given : List ℕ) (left now : Option (List ℕ)) → IfSome left (λ all. given ≡ take read_limit all) → left ≡ then_told given now
+rest_is : (given : List ℕ) (left now : Option (List ℕ)) → IfSome left (λ all. given ≡ take read_limit all) → left ≡ with_prepended given now
     → now ≡ option_map (drop read_limit) left
 rest_is given None None first read = refl
 rest_is given None (Some rest) first read = absurd cc
@@ -101,7 +101,7 @@ rest_is given (Some all) (Some rest) first read =
     ap Some (append_cancel_left given rest (drop read_limit all) (sym all_is ∙ (sym (take-append-drop read_limit all) ∙ ap (λ t. t ++ drop read_limit all) (sym first))))
 
 pub read_as : (call : Call) (given items : List ℕ) (old new : SourceTells) → IsCallOver old new call → given ≡ items
-    → IfSome old.left (λ all. items ≡ take read_limit all) → old.left ≡ then_told items new.left → new.faults ≡ old.faults → IsReadAs given call
+    → IfSome old.left (λ all. items ≡ take read_limit all) → old.left ≡ with_prepended items new.left → new.faults ≡ old.faults → IsReadAs given call
 read_as call given items old new over same first read quiet =
     record {
       asked = over.asked;

@@ -6,7 +6,7 @@ use Rattle.vfm_types.specs.declared.state.MigState.{MigState}
 use Rattle.vfm_types.specs.declared.state.PathFault.{PathFault}
 use Rattle.vfm_types.specs.Paths.{path_of}
 use Rattle.vfm_outside.specs.Counts.{Rose}
-use Rattle.vfm_outside.specs.Told.{then_told, then_told-nil}
+use Rattle.vfm_outside.specs.Told.{with_prepended, with_prepended-nil}
 use Rattle.vfm_plain.specs.Report.{Made}
 use Rattle.vfm_desc.specs.Described.{description_of}
 use Rattle.vfm_top.specs.declared.words.Form.{Form}
@@ -131,7 +131,7 @@ untouched call desc report wires =
       report = report;
       wires = wires;
       unread = λ other. desc;
-      read = record { bytes = []; few = omega arith; read = sym (then_told-nil call.now.desc.left ∙ ap (λ source. source.left) desc) };
+      read = record { bytes = []; few = omega arith; read = sym (with_prepended-nil call.now.desc.left ∙ ap (λ source. source.left) desc) };
     }
 
 -- words without a form are refused

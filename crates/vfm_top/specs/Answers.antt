@@ -4,7 +4,7 @@ use Rattle.std.specs.Option.{IsSomeAnd}
 use Rattle.vfm_types.specs.declared.fault.DescFault.{DescFault}
 use Rattle.vfm_types.specs.Valid.{IsValid}
 use Rattle.vfm_outside.specs.Counts.{Rose}
-use Rattle.vfm_outside.specs.Told.{told_then}
+use Rattle.vfm_outside.specs.Told.{with_appended}
 use Rattle.vfm_outside.specs.Tells.{SinkTells}
 use Rattle.vfm_plain.specs.Report.{Made}
 use Rattle.vfm_text.specs.Prints.{IsCut}
@@ -28,7 +28,7 @@ pub record IsMoveOf (call : Call) (status : Status) (made : Made) : Type 0 where
 
 -- this text was written wholly, and no write failed
 pub record IsPrinted (text : List ℕ) (before now : SinkTells) : Type 0 where
-  pub written : now.holds ≡ told_then before.holds text
+  pub written : now.holds ≡ with_appended before.holds text
   pub faults : now.faults ≡ before.faults
 
 -- a write failed, and a prefix of this text was written

@@ -1,6 +1,6 @@
 -- A call of `run`: its words, what the objects outside show before it and after it, and its answer.
 use Rattle.std.specs.Prelude.{◌≡◌, ℕ, ◌≤◌, List, length, take, drop, Option, option_map}
-use Rattle.vfm_outside.specs.Told.{then_told}
+use Rattle.vfm_outside.specs.Told.{with_prepended}
 use Rattle.vfm_outside.specs.Counts.{Rose}
 use Rattle.vfm_outside.specs.Tells.{SourceTells, SinkTells, WiresTell}
 use Rattle.vfm_top.specs.declared.status.Status.{Status}
@@ -49,4 +49,4 @@ IsReadOut call = call.now.desc.left ≡ option_map (drop read_limit) call.before
 pub record IsPrefixRead (most : ℕ) (before now : SourceTells) : Type 0 where
   pub bytes : List ℕ
   pub few : length bytes ≤ most
-  pub read : before.left ≡ then_told bytes now.left
+  pub read : before.left ≡ with_prepended bytes now.left

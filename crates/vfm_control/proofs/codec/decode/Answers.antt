@@ -2,7 +2,7 @@
 use Rattle.std.proofs.Common.{◌≡◌, ℕ, Option, Some, None, List, sym, ◌∙◌, refl}
 use Rattle.std.specs.Prelude.{IsNone}
 use Rattle.vfm_control.specs.declared.frame.Frame.{Frame}
-use Rattle.vfm_control.specs.Words.{IsBytes}
+use Rattle.vfm_base.specs.Words.{IsBytes}
 use Rattle.vfm_control.specs.Frame.{IsNoFrame, frame_at}
 use Rattle.vfm_control.proofs.Encoded.{found}
 use Rattle.vfm_control.proofs.Decoded.{was_encoded}

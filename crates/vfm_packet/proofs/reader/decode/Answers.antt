@@ -2,7 +2,7 @@
 use Rattle.std.proofs.Common.{ℕ, sym, ap, ◌∙◌, subst, arith}
 use Rattle.vfm_packet.specs.declared.answer.Decoded.{Decoded}
 use Rattle.vfm_packet.specs.declared.answer.Decoded.TheVariants.{Packet}
-use Rattle.vfm_packet.specs.Header.{IsBytes}
+use Rattle.vfm_base.specs.Words.{IsBytes}
 use Rattle.vfm_packet.proofs.Decoding.{Reads, reads, packet_reads, partial_reads, corrupt_reads, refused_reads, corrupt_when}
 use Rattle.vfm_packet.proofs.reader.decode.Goals as goal
 

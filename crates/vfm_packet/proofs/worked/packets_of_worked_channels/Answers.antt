@@ -1,6 +1,7 @@
 -- The definitions compute.
 use Rattle.std.proofs.Common.{refl}
-use Rattle.vfm_packet.specs.Sound.{word_at, head_fault}
+use Rattle.vfm_base.specs.Words.{word_at}
+use Rattle.vfm_packet.specs.Sound.{head_fault}
 use Rattle.vfm_packet.specs.Answer.{decoded}
 use Rattle.vfm_packet.specs.Reading.{reading_of}
 use Rattle.vfm_packet.proofs.worked.packets_of_worked_channels.Goals as goal

@@ -2,7 +2,8 @@
 use Rattle.std.proofs.Common.{refl}
 use Rattle.sha2.specs.Sha256.{first_words, schedule, rounds, compress, hash_after, digest_bytes, sha256}
 use Rattle.vfm_packet.specs.Header.{head_bytes}
-use Rattle.vfm_packet.specs.Sound.{word_at, head_fault}
+use Rattle.vfm_base.specs.Words.{word_at}
+use Rattle.vfm_packet.specs.Sound.{head_fault}
 use Rattle.vfm_packet.specs.Answer.{decoded}
 use Rattle.vfm_packet.specs.Reading.{reading_of}
 use Rattle.vfm_packet.proofs.worked.refusals_of_sealed_channels.Goals as goal

@@ -18,10 +18,10 @@ returns-clause-found c =
     given P c.tested.result (record_fault D stream bytes) (record_at stream bytes) c.tested.ensures (found D stream bytes fits)
 
 pub returns-clause-only : goal.returns-clause-only
-returns-clause-only c r is spelled =
+returns-clause-only c r is encoded =
     let D = c.args.desc.now in
     let stream = c.args.stream in
     let there = again D stream r is in
-    let none = ap (record_fault D stream) spelled ∙ there.0 in
-    let read = ap (record_at stream) spelled ∙ there.1 in
+    let none = ap (record_fault D stream) encoded ∙ there.0 in
+    let read = ap (record_at stream) encoded ∙ there.1 in
     is_given c.tested.result (record_fault D stream c.args.bytes.now) r (rw read at c.tested.ensures) none

@@ -3,11 +3,11 @@ use Rattle.std.specs.Prelude.{ℕ, [], length}
 use Rattle.vfm_packet.specs.declared.header.Header.{Header}
 use Rattle.vfm_packet.specs.declared.header.Kind.TheVariants.{End}
 use Rattle.vfm_packet.specs.Packet.{Packet}
-use Rattle.vfm_record.specs.Record.{Record, spelling}
+use Rattle.vfm_record.specs.Record.{Record, record_bytes}
 
 -- the packet of a record: this header, with the record's length, and the record
-abbrev pub packed : Header → Record → Packet
-packed h r = record { head = record h { length = length (spelling r) }; payload = spelling r }
+abbrev pub record_packet : Header → Record → Packet
+record_packet h r = record { head = record h { length = length (record_bytes r) }; payload = record_bytes r }
 
 -- the packet that ends a channel of this version and session
 abbrev pub end_of : ℕ → ℕ → Packet

@@ -1,8 +1,8 @@
 -- Numbers in bytes and out of them.
-use Rattle.std.proofs.Common.{◌≡◌, ℕ, ◌+◌, ◌^◌, ◌<◌, ◌≤◌, List, length, take, drop, refl, ap, inl, inr, arith}
+use Rattle.std.proofs.Common.{◌≡◌, ℕ, ◌+◌, ◌^◌, ◌<◌, ◌≤◌, List, ◌++◌, length, take, drop, refl, ap, ◌∙◌, inl, inr, arith}
 use Rattle.std.specs.Int.{Width, w16, w32, w64, byte_len, from_be_bytes, to_be_bytes}
 use Rattle.std.proofs.lemmas.Bool.{cases_lt}
-use Rattle.std.proofs.lemmas.List.{length-take, length-drop, drop-drop, get_or-drop, get_or-take, get_or_past}
+use Rattle.std.proofs.lemmas.List.{length-take, length-drop, drop-drop, take-append-le, drop-append-le, get_or-drop, get_or-take, get_or_past}
 use Rattle.std.proofs.lemmas.Nat.{be_bytes_2, be_bytes_4, be_bytes_8}
 use Rattle.vfm_base.specs.Words.{IsBytes, word_at}
 
@@ -55,3 +55,12 @@ word_64 place bytes h fits =
 pub word-drop : (w : Width) (place n : ℕ) (bytes : List ℕ) → word_at w place (drop n bytes) ≡ word_at w (n + place) bytes
 unfolding word_at
 word-drop w place n bytes = ap (λ (l : List ℕ). from_be_bytes w (take (byte_len w) l)) (drop-drop place n bytes)
+
+-- what follows doesn't matter
+pub word_stays : (w : Width) (place : ℕ) (bytes more : List ℕ) → place + byte_len w ≤ length bytes → word_at w place (bytes ++ more) ≡ word_at w place bytes
+unfolding word_at
+word_stays w place bytes more h =
+    let piece : take (byte_len w) (drop place (bytes ++ more)) ≡ take (byte_len w) (drop place bytes) =
+    ap (λ (l : List ℕ). take (byte_len w) l) (drop-append-le place bytes more (omega arith))
+    ∙ take-append-le (byte_len w) (drop place bytes) more (omega (arith, length-drop place bytes)) in
+    ap (from_be_bytes w) piece

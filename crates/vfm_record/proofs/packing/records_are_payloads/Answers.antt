@@ -1,7 +1,7 @@
 -- The sizes of records are those of payloads.
 use Rattle.std.proofs.Common.{refl, sym, subst}
 use Rattle.vfm_packet.specs.Header.{IsVersion}
-use Rattle.vfm_codec_cases.proofs.packing.records_are_payloads.Goals as goal
+use Rattle.vfm_record.proofs.packing.records_are_payloads.Goals as goal
 
 pub returns : goal.returns
 returns c D e h r valid is carried version session below session_fits stream_fits index_fits =

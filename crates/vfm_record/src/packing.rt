@@ -9,10 +9,11 @@ ghost use Rattle.vfm_packet.specs.Header.{carries, head_bytes};
 ghost use Rattle.vfm_packet.specs.Packet.{packet_bytes, packet_size, seal, seal_len, IsSoundPacket};
 ghost use Rattle.vfm_record.specs.Record.{Record, record_of, IsRecordOf};
 ghost use Rattle.vfm_record.specs.Writing.{IsWritable};
-ghost use Rattle.vfm_codec_cases.specs.Packing.{packed, end_of};
+ghost use Rattle.vfm_record.specs.Packing.{record_packet, end_of};
 
+use crate::laws::size_of_a_record;
+use crate::{Rec, encoded_len, write};
 use vfm_packet::{Header, Kind, SEAL_LEN, encode_head, seal, seal_len};
-use vfm_record::{Rec, size_of_a_record, spelled_len, write};
 use vfm_types::NoMemory;
 
 // Appends what follows the payload, which lies in `out` from `at` on.
@@ -35,15 +36,15 @@ fn put_seal(head: &Header, at: usize, out: &mut Vec<u8>) -> Result<(), NoMemory>
 /// memory ran out, a part of it may be appended.
 pub fn put_record(head: &Header, r: &Rec, out: &mut Vec<u8>) -> Result<(), NoMemory>
     requires { IsWritable r.now }
-    ensures ok { OnOk result (out.new.items ≡ out.old.items ++ packet_bytes (packed head.now (record_of r.now))) }
+    ensures ok { OnOk result (out.new.items ≡ out.old.items ++ packet_bytes (record_packet head.now (record_of r.now))) }
     // memory ran out only where the vector had no room for the packet; in version 2 also where it has none for the seal
     ensures full { seal_len head.now.version ≡ 0 →
-        OnErr result (vec_capacity out.old < vec_len out.old + packet_size (packed head.now (record_of r.now)).head) }
-    ensures sealed_full { let need = vec_len out.old + packet_size (packed head.now (record_of r.now)).head in
+        OnErr result (vec_capacity out.old < vec_len out.old + packet_size (record_packet head.now (record_of r.now)).head) }
+    ensures sealed_full { let need = vec_len out.old + packet_size (record_packet head.now (record_of r.now)).head in
         OnErr result ((vec_capacity out.old < need) ⊎ (vec_capacity out.new < need)) }
 {
     let head = Header {
-        length: spelled_len(r),
+        length: encoded_len(r),
         ..*head
     };
     out.extend_from_slice(&encode_head(&head))?;
@@ -75,7 +76,7 @@ pub fn records_are_payloads()
     ensures { (D : Desc) (e : Expect) (h : Header) (r : Record) → IsValid D → IsRecordOf D h.stream r → IsTrue (carries h.kind)
         → h.version ≡ e.version → h.session ≡ e.session → h.stream < e.streams
         → h.session < 2 ^ 64 → h.stream < 2 ^ 32 → h.index < 2 ^ 32
-        → IsSoundPacket e (packed h r) }
+        → IsSoundPacket e (record_packet h r) }
 {
     size_of_a_record();
 }
