@@ -1,0 +1,36 @@
+-- Lists read by place, and what holds of each of their elements.
+use Rattle.std.proofs.Common.{◌≡◌, ◌≢◌, ℕ, zero, suc, ◌+◌, ◌<◌, ◌≤◌, ◌⊎◌, inl, inr, ⊎_elim, Bool, true, false, ◌||◌, eqb, List, [], ◌∷◌, ◌++◌, map, length, get_or, set, sym, refl, ap, ◌∙◌, subst, eq-eqb, ne_eqb, arith, length-append}
+use mathlib.Core.Option.{some, some-injective, some-ne-none}
+use mathlib.Core.Logic.{dite}
+use native.Mathlib.Decide.{ℕ_discrete}
+use lib.ListN.{get_elem?}
+use Rattle.std.specs.List.{All}
+use Rattle.vfm_turn.specs.Log.{Each}
+
+module _ {X : Type 0} where
+  pub each_weaken : (P Q : X → Type 0) → ((x : X) → P x → Q x) → (xs : List X) → Each P xs → Each Q xs
+  each_weaken P Q f [] e = tt
+  each_weaken P Q f (x ∷ xs) e = (f x e.0, each_weaken P Q f xs e.1)
+
+  pub each_snoc : (P : X → Type 0) (xs : List X) (x : X) → Each P xs → P x → Each P (xs ++ x ∷ [])
+  each_snoc P [] x e p = (p, tt)
+  each_snoc P (y ∷ ys) x e p = (e.0, each_snoc P ys x e.1 p)
+
+  pub each_all : (P : X → Type 0) (xs : List X) → Each P xs → All P xs
+  each_all P [] e k d h = absurd (omega arith)
+  each_all P (x ∷ xs) e zero d h = e.0
+  each_all P (x ∷ xs) e (suc k) d h = each_all P xs e.1 k d (omega arith)
+
+  pub at_lt : (xs : List X) (i : ℕ) (x : X) → get_elem? xs i ≡ some x → i < length xs
+  at_lt [] i x e = absurd (some-ne-none x (sym e))
+  at_lt (y ∷ ys) zero x e = omega arith
+  at_lt (y ∷ ys) (suc i) x e = let h = at_lt ys i x e in omega arith
+
+  pub at_end : (xs : List X) (y : X) (i : ℕ) (x : X) → get_elem? (xs ++ y ∷ []) i ≡ some x → (get_elem? xs i ≡ some x) ⊎ ((i ≡ length xs) × (y ≡ x))
+  at_end [] y zero x e = inr (refl, some-injective y x e)
+  at_end [] y (suc i) x e = absurd (some-ne-none x (sym e))
+  at_end (z ∷ zs) y zero x e = inl e
+  at_end (z ∷ zs) y (suc i) x e = ⊎_elim (λ h. inl h) (λ h. inr (ap suc h.0, h.1)) (at_end zs y i x e)
+
+  pub same_at : (xs : List X) (i : ℕ) (x y : X) → get_elem? xs i ≡ some x → get_elem? xs i ≡ some y → x ≡ y
+  same_at xs i x y a b = some-injective x y (sym a ∙ b)
