@@ -1,4 +1,6 @@
 pub mod Lists
 pub mod Logs
 pub mod Keeps
+pub mod Tickets
+pub mod Calls
 

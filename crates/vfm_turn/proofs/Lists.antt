@@ -1,10 +1,11 @@
 -- Lists read by place, and what holds of each of their elements.
-use Rattle.std.proofs.Common.{◌≡◌, ◌≢◌, ℕ, zero, suc, ◌+◌, ◌<◌, ◌≤◌, ◌⊎◌, inl, inr, ⊎_elim, Bool, true, false, ◌||◌, eqb, List, [], ◌∷◌, ◌++◌, map, length, get_or, set, sym, refl, ap, ◌∙◌, subst, eq-eqb, ne_eqb, arith, length-append}
+use Rattle.std.proofs.Common.{◌≡◌, ◌≢◌, ℕ, zero, suc, ◌+◌, ◌<◌, ◌≤◌, ◌⊎◌, inl, inr, ⊎_elim, Bool, true, false, ◌||◌, eqb, List, [], ◌∷◌, ◌++◌, map, length, take, drop, append_assoc, append-nil, get_or, set, sym, refl, ap, ◌∙◌, subst, eq-eqb, ne_eqb, arith, length-append}
 use mathlib.Core.Option.{some, some-injective, some-ne-none}
 use mathlib.Core.Logic.{dite}
 use native.Mathlib.Decide.{ℕ_discrete}
 use lib.ListN.{get_elem?}
 use Rattle.std.specs.List.{All}
+use Rattle.atomic_table.specs.Table.{turned}
 use Rattle.vfm_turn.specs.Log.{Each}
 
 module _ {X : Type 0} where
@@ -34,3 +35,21 @@ module _ {X : Type 0} where
 
   pub same_at : (xs : List X) (i : ℕ) (x y : X) → get_elem? xs i ≡ some x → get_elem? xs i ≡ some y → x ≡ y
   same_at xs i x y a b = some-injective x y (sym a ∙ b)
+
+  -- the element at a place, with the parts before and after it
+  pub split_at : (xs : List X) (i : ℕ) → i < length xs → (x : X) × (drop i xs ≡ x ∷ drop (suc i) xs) × (take (suc i) xs ≡ take i xs ++ x ∷ [])
+  split_at [] i h = absurd (omega arith)
+  split_at (x ∷ xs) zero h = (x, refl, refl)
+  split_at (x ∷ xs) (suc i) h = let r = split_at xs i (omega arith) in (r.0, r.1, ap (λ ys. x ∷ ys) r.2)
+
+module _ {S : Type 0} where
+  -- one turn more
+  pub turned_more : (xs : List (ℕ × S)) (i : ℕ) → i < length xs → turned (drop i xs ++ take i xs) ≡ drop (i + 1) xs ++ take (i + 1) xs
+  turned_more xs i h = let s = split_at xs i h in let next : i + 1 ≡ suc i = omega arith in
+      ap (λ ys. turned (ys ++ take i xs)) s.1
+      ∙ (append_assoc (drop (suc i) xs) (take i xs) (s.0 ∷ [])
+      ∙ (ap (λ ys. drop (suc i) xs ++ ys) (sym s.2) ∙ ap (λ j. drop j xs ++ take j xs) (sym next)))
+
+  pub turned_none : (xs : List (ℕ × S)) → xs ≡ drop 0 xs ++ take 0 xs
+  turned_none [] = refl
+  turned_none (x ∷ xs) = ap (λ ys. x ∷ ys) (sym (append-nil xs))

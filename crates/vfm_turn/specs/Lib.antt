@@ -4,4 +4,5 @@ pub mod Run
 pub mod Rule
 pub mod Steps
 pub mod Order
+pub mod Place
 pub mod Words

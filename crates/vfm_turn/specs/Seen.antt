@@ -1,5 +1,5 @@
 -- What a seat knows of the board, as its owner sees it, and what each call makes of it.
-use Rattle.std.specs.Prelude.{◌≡◌, ℕ, ◌==◌, if◌then◌else◌, Bool, true, false, ◌||◌, List, [], ◌∷◌, ◌++◌, map}
+use Rattle.std.specs.Prelude.{◌≡◌, ℕ, ◌==◌, if◌then◌else◌, Bool, true, false, ◌||◌, ◌&&◌, nat_lt, List, [], ◌∷◌, ◌++◌, map}
 use Rattle.vfm_types.specs.declared.entry.Entry.{Entry}
 use Rattle.vfm_turn.specs.declared.seen.Busy.{Busy}
 use Rattle.vfm_turn.specs.declared.seen.Stand.{Stand}
@@ -19,6 +19,11 @@ pub record Seen (Z : Type 0) : Type 0 where
   pub records : List (Drawn Z)
   pub notes : List (Note Z)
   pub meetings : List Busy
+
+-- whether each number is above the one before it
+abbrev pub are_rising : List ℕ → Bool
+are_rising [] = true
+are_rising (c ∷ cs) = (elim cs as (λ (x : List ℕ). Bool) [ [] ↦ true | d ∷ ds ↦ nat_lt c d ]) && are_rising cs
 
 module _ {Z : Type 0} where
   abbrev pub stand : ℕ → Z → Stand Z
@@ -46,6 +51,11 @@ module _ {Z : Type 0} where
   abbrev pub is_held : ℕ → List (Hold Z) → Bool
   is_held c [] = false
   is_held c (h ∷ hs) = (h.cell == c) || is_held c hs
+
+  -- whether each of these cells is held
+  abbrev pub are_held : List ℕ → List (Hold Z) → Bool
+  are_held [] hs = true
+  are_held (c ∷ cs) hs = is_held c hs && are_held cs hs
 
   -- the settled state of a held cell is this one, at each place where the cell stands
   abbrev pub IsSettled : ℕ → Z → List (Hold Z) → Type 0

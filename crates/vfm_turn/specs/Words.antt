@@ -8,6 +8,7 @@ use Rattle.vfm_turn.specs.declared.seen.Drawn.{Drawn}
 use Rattle.vfm_turn.specs.declared.seen.Note.{Note}
 use Rattle.vfm_turn.specs.declared.seen.Past.{Past}
 use Rattle.vfm_turn.specs.declared.seen.Held.{Held}
+use Rattle.vfm_turn.specs.declared.seen.View.{View}
 use Rattle.vfm_turn.specs.declared.ticket.Ticket.{Ticket}
 use Rattle.vfm_turn.specs.declared.board.Board.{Board}
 use Rattle.vfm_turn.specs.Seen.{Hold, Seen, hold}
@@ -19,6 +20,10 @@ holds_from state [] hs = []
 holds_from state (s ∷ ss) [] = []
 holds_from state (s ∷ ss) (h ∷ hs) = hold s.cell s.state (state h.shown.value) ∷ holds_from state ss hs
 
+-- what a seat knows, from its view and from the cells that it was shown
+abbrev pub seen_from : {T Z : Type 0} → (T → Z) → View Z → List (Held T) → Seen Z
+seen_from state v hs = record { holds = holds_from state v.holds hs; records = v.records; notes = v.notes; meetings = v.meetings }
+
 module _ {T Z : Type 0} {g : Ghosts T Z} where
   -- the seat's number, counted from 0
   abbrev pub number_of : Ticket T Z g → ℕ
@@ -26,12 +31,7 @@ module _ {T Z : Type 0} {g : Ghosts T Z} where
 
   -- all that the seat knows
   abbrev pub seen_of : Ticket T Z g → Seen Z
-  seen_of t = record {
-    holds = holds_from g.state t.seat.me.0.holds t.order.items;
-    records = t.seat.me.0.records;
-    notes = t.seat.me.0.notes;
-    meetings = t.seat.me.0.meetings;
-  }
+  seen_of t = seen_from g.state t.seat.me.0 t.order.items
 
   -- the cells that it holds, with their settled and their shown states
   abbrev pub holds_of : Ticket T Z g → List (Hold Z)

@@ -1,6 +1,6 @@
 //! The board, and its calls.
 
-ghost use Rattle.std.specs.Prelude.{◌≡◌, ◌≤◌, ◌+◌, vec_len};
+ghost use Rattle.std.specs.Prelude.{◌≡◌, ◌≤◌, ◌+◌, length};
 
 use crate::kept::Kept;
 use crate::plays::{Draw, Drawing, Enter, Leave, Now, Seats, Turns};
@@ -16,18 +16,18 @@ use vfm_types::{Desc, Entry, NoMemory};
 pub struct Board<T: Kept> {
     table: Table<Option<T>, View<T::State>, Key<T>, Turns<T>, Global>,
     pub ghost words: { table.shared.table_id.words ≡ table.shared.table_id.slots + 1 },
-    pub ghost cells: { vec_len table.shared.key.cells.value ≡ table.shared.table_id.slots },
+    pub ghost cells: { length table.shared.key.cells.value.items ≡ table.shared.table_id.slots },
     pub ghost few: { table.shared.table_id.slots ≤ 1100 },
     pub ghost seats: { table.shared.key.seats ≤ 64 },
 }
 
-impl<T: Kept> Board<T> {
-    ghost use Rattle.std.specs.Prelude.{◌≢◌, ◌<◌, ℕ, false, IfOk, IfErr, IsTrue};
-    ghost use Rattle.vfm_turn.specs.Seen.{is_held, entered, met};
-    ghost use Rattle.vfm_turn.specs.Words.{IsTicketOf, cells_of, seats_of, desc_of, number_of, seen_of, holds_of};
+impl<T: Kept + Drop> Board<T> {
+    ghost use Rattle.std.specs.Prelude.{◌≢◌, ◌<◌, ◌^◌, ℕ, true, false, IfOk, IfErr, IsTrue, All};
+    ghost use Rattle.vfm_turn.specs.Seen.{is_held, are_held, are_rising, IsSettled, entered, met, shown, drew, noted, left, drawn, touches_in};
+    ghost use Rattle.vfm_turn.specs.Words.{IsTicketOf, cells_of, seats_of, desc_of, number_of, seen_of, holds_of, records_of, notes_of};
 
     /// Enters a cell and is lent its value, whose state is then the cell's settled and shown one; or finds another seat
-    /// in the cell, whose number the answer carries.
+    /// in the cell, whose number the answer carries. The ticket keeps the list of such meetings.
     pub fn enter(&self, t: &mut Ticket<T>, cell: u32) -> Result<T, Busy>
         requires ticket { IsTicketOf self.now t.old }
         requires cell { cell < cells_of self.now }
@@ -57,5 +57,110 @@ impl<T: Kept> Board<T> {
             shown: Snapshot::of(&value),
         });
         Ok(value)
+    }
+
+    /// Shows a held cell in the state of `value`: the state after the next entry that touches it. No step on a word.
+    pub fn show(&self, t: &mut Ticket<T>, cell: u32, value: &T)
+        requires ticket { IsTicketOf self.now t.old }
+        requires held { is_held cell (holds_of t.old) ≡ true }
+        ensures ticket { IsTicketOf self.now t.new × (number_of t.new ≡ number_of t.old) }
+        ensures seen { seen_of t.new ≡ shown cell (T.state value.now) (seen_of t.old) }
+    {
+        let i = place_of(&t.order, cell);
+        t.order[i] = Held {
+            cell,
+            shown: Snapshot::of(value),
+        };
+    }
+
+    /// Draws the next stamp for an entry that touches these held cells and no others, and answers it: counted from 0
+    /// over all seats, and above each stamp that this seat drew. The cells are in rising order. The ticket keeps the
+    /// record: each cell's settled state is the one before, and its shown state is the one after, which is then settled.
+    pub fn draw(&self, t: &mut Ticket<T>, e: Entry, cells: &[u32]) -> u64
+        requires ticket { IsTicketOf self.now t.old }
+        requires some { 0 < length cells.now }
+        requires rising { are_rising cells.now ≡ true }
+        requires held { are_held cells.now (holds_of t.old) ≡ true }
+        requires few { length (records_of t.old) < 2 ^ 32 }
+        ensures ticket { IsTicketOf self.now t.new × (number_of t.new ≡ number_of t.old) }
+        ensures seen { seen_of t.new ≡ drew (drawn (number_of t.old) result e (touches_in cells.now (holds_of t.old))) (seen_of t.old) }
+        ensures later { All (λ r. r.stamp < result) (records_of t.old) }
+    {
+        self.draw_as::<Brand>(t, e, cells)
+    }
+
+    // the same, where J says in advance what is drawn
+    fn draw_as<J: Drawing<T::State>>(&self, t: &mut Ticket<T>, _e: Entry, _cells: &[u32]) -> u64
+        requires ticket { IsTicketOf self.now t.old }
+        requires few { length (records_of t.old) < 2 ^ 32 }
+        requires said { (J.entry ≡ _e) × (J.touches ≡ touches_in _cells.now (holds_of t.old)) }
+        ensures ticket { IsTicketOf self.now t.new × (number_of t.new ≡ number_of t.old) }
+        ensures seen { seen_of t.new ≡ drew (drawn (number_of t.old) result _e (touches_in _cells.now (holds_of t.old))) (seen_of t.old) }
+        ensures later { All (λ r. r.stamp < result) (records_of t.old) }
+    {
+        self.table
+            .shared
+            .fetch_add::<Draw<J>>(&mut t.seat, 0, 1)
+    }
+
+    /// How many stamps are drawn so far: above each stamp that this seat drew, and no less than it was answered before.
+    /// The ticket keeps a note of it, with each cell that the seat holds and the cell's settled state.
+    pub fn now(&self, t: &mut Ticket<T>) -> u64
+        requires ticket { IsTicketOf self.now t.old }
+        ensures ticket { IsTicketOf self.now t.new × (number_of t.new ≡ number_of t.old) }
+        ensures seen { seen_of t.new ≡ noted result (seen_of t.old) }
+        ensures later { All (λ r. r.stamp < result) (records_of t.old) × All (λ n. n.answer ≤ result) (notes_of t.old) }
+    {
+        self.table.shared.load::<Now>(&mut t.seat, 0)
+    }
+
+    /// Leaves a held cell, with a value whose state is the settled one.
+    pub fn leave(&self, t: &mut Ticket<T>, cell: u32, value: T)
+        requires ticket { IsTicketOf self.now t.old }
+        requires held { is_held cell (holds_of t.old) ≡ true }
+        requires settled { IsSettled cell (T.state value) (holds_of t.old) }
+        requires fits { T.fits (desc_of self.now) cell value }
+        ensures ticket { IsTicketOf self.now t.new × (number_of t.new ≡ number_of t.old) }
+        ensures seen { seen_of t.new ≡ left cell (seen_of t.old) }
+    {
+        let i = place_of(&t.order, cell);
+        turn_by(&mut t.seat, i);
+        self.table
+            .shared
+            .exchange(&mut t.seat, cell as usize, Some(value));
+        self.table
+            .shared
+            .store::<Leave>(&mut t.seat, cell as usize + 1, 0);
+        turn_by(&mut t.seat, t.order.len() - i - 1);
+        t.order.remove(i);
+    }
+}
+
+ghost use Rattle.std.specs.Prelude.{true, ◌<◌, ◌++◌, take, drop, map, vec_len};
+ghost use Rattle.vfm_turn.specs.Order.{has, held_cell};
+ghost use Rattle.vfm_turn.specs.Place.{place_in};
+
+// the place of a held cell
+fn place_of<T>(order: &Vec<Held<T>>, cell: u32) -> usize
+    requires { has cell (map held_cell order.now.items) ≡ true }
+    ensures place { result ≡ place_in cell (map held_cell order.now.items) }
+    ensures inside { result < vec_len order.now }
+{
+    for (i, held) in order.iter().enumerate() {
+        if held.cell == cell {
+            return i;
+        }
+    }
+    unreachable!()
+}
+
+// brings the slot at this place to the front, by so many turns
+fn turn_by<S, V>(seat: &mut Seat<S, V>, times: usize)
+    requires { times ≤ length seat.old.me.1 }
+    ensures same { (seat.new.table_id ≡ seat.old.table_id) × (seat.new.id ≡ seat.old.id) }
+    ensures turned { seat.new.me ≡ (seat.old.me.0, drop times seat.old.me.1 ++ take times seat.old.me.1) }
+{
+    for _i in 0..times {
+        seat.turn();
     }
 }
