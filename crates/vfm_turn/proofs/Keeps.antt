@@ -477,7 +477,7 @@ module _ {T Z : Type 0} (state : T → Z) (fits : Desc → ℕ → T → Type 0)
       }
 
   -- a seat takes another in that holds no cell
-  joins : (id other : ℕ) (v w : View Z) → v.live ≡ true → w.live ≡ true → w.holds ≡ [] → Joins Rule id v other w (taken_in v w) spent_view
+  pub joins : (id other : ℕ) (v w : View Z) → v.live ≡ true → w.live ≡ true → w.holds ≡ [] → Joins Rule id v other w (taken_in v w) spent_view
   joins id other v w live live_w bare s r at apart there =
       let views = s.views in let both = taken_in v w in let views' = set (set views id both) other spent_view in
       let l = r.alive id v at live in

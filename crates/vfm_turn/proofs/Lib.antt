@@ -3,4 +3,6 @@ pub mod Logs
 pub mod Keeps
 pub mod Tickets
 pub mod Calls
+pub mod Runs
+pub mod Closes
 

@@ -1,8 +1,9 @@
 pub mod Seen
 pub mod Log
-pub mod Run
 pub mod Rule
 pub mod Steps
 pub mod Order
 pub mod Place
 pub mod Words
+pub mod History
+pub mod Run

@@ -1,5 +1,5 @@
 -- The cells that a ticket holds, in the order in which it entered them.
-use Rattle.std.specs.Prelude.{ℕ, ◌==◌, Bool, true, false, not, ◌&&◌, ◌||◌, nat_lt, List, [], ◌∷◌, map, Option, None}
+use Rattle.std.specs.Prelude.{◌≡◌, ℕ, ◌==◌, Bool, true, false, not, ◌&&◌, ◌||◌, nat_lt, List, [], ◌∷◌, map, Option, Some, None}
 use Rattle.vfm_turn.specs.declared.seen.Stand.{Stand}
 use Rattle.vfm_turn.specs.declared.seen.Held.{Held}
 
@@ -27,3 +27,13 @@ are_once (x ∷ xs) = not (has x xs) && are_once xs
 abbrev pub are_below : ℕ → List ℕ → Bool
 are_below n [] = true
 are_below n (x ∷ xs) = nat_lt x n && are_below n xs
+
+-- the values that lie in slots, in their order
+abbrev pub values_in : {T : Type 0} → List (Option T) → List T
+values_in [] = []
+values_in (Some x ∷ slots) = x ∷ values_in slots
+values_in (None ∷ slots) = values_in slots
+
+-- each slot has its value
+abbrev pub AreAllHome : {T : Type 0} → List (Option T) → Type 0
+AreAllHome slots = slots ≡ map Some (values_in slots)

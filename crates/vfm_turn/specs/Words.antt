@@ -1,5 +1,5 @@
 -- What clauses read of a board and of a ticket.
-use Rattle.std.specs.Prelude.{◌≡◌, ℕ, List, [], ◌∷◌, map, Some}
+use Rattle.std.specs.Prelude.{◌≡◌, ℕ, List, [], ◌∷◌, map, Option, Some}
 use Rattle.vfm_types.specs.declared.desc.Desc.{Desc}
 use Rattle.vfm_turn.specs.declared.kept.Kept.{Ghosts}
 use Rattle.vfm_turn.specs.declared.seen.Busy.{Busy}
@@ -9,6 +9,8 @@ use Rattle.vfm_turn.specs.declared.seen.Note.{Note}
 use Rattle.vfm_turn.specs.declared.seen.Past.{Past}
 use Rattle.vfm_turn.specs.declared.seen.Held.{Held}
 use Rattle.vfm_turn.specs.declared.seen.View.{View}
+use Rattle.vfm_turn.specs.declared.seen.Key.{Key}
+use Rattle.atomic_table.specs.declared.shared.Shared.{Shared}
 use Rattle.vfm_turn.specs.declared.ticket.Ticket.{Ticket}
 use Rattle.vfm_turn.specs.declared.board.Board.{Board}
 use Rattle.vfm_turn.specs.Seen.{Hold, Seen, hold}
@@ -32,6 +34,10 @@ module _ {T Z : Type 0} {g : Ghosts T Z} where
   -- all that the seat knows
   abbrev pub seen_of : Ticket T Z g → Seen Z
   seen_of t = seen_from g.state t.seat.me.0 t.order.items
+
+  -- what it drew and noted, newest first
+  abbrev pub past_told : Ticket T Z g → Past Z
+  past_told t = past_of t.seat.me.0
 
   -- the cells that it holds, with their settled and their shown states
   abbrev pub holds_of : Ticket T Z g → List (Hold Z)
@@ -66,6 +72,10 @@ module _ {T Z : Type 0} where
   abbrev pub started_of : (T → Z) → Board T Z → List Z
   started_of state b = map state b.table.shared.key.cells.value.items
 
+-- the seat of the ticket is one of the table
+abbrev pub IsSeatOf : {T Z P : Type 0} {g : Ghosts T Z} → Shared (Option T) (View Z) (Key T) P → Ticket T Z g → Type 0
+IsSeatOf top t = (t.seat.table_id ≡ top.table_id) × (t.seat.me.0.desc ≡ Some top.key.desc) × (t.seat.me.0.seats ≡ top.key.seats)
+
 -- the ticket is one of the board
 abbrev pub IsTicketOf : {T Z : Type 0} {g : Ghosts T Z} → Board T Z → Ticket T Z g → Type 0
-IsTicketOf b t = (t.seat.table_id ≡ b.table.shared.table_id) × (t.seat.me.0.desc ≡ Some b.table.shared.key.desc) × (t.seat.me.0.seats ≡ b.table.shared.key.seats)
+IsTicketOf b t = IsSeatOf b.table.shared t

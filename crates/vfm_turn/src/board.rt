@@ -1,7 +1,8 @@
 //! The board, and its calls.
 
-ghost use Rattle.std.specs.Prelude.{◌≡◌, ◌≤◌, ◌+◌, length};
+ghost use Rattle.std.specs.Prelude.{◌≡◌, ◌<◌, ◌≤◌, ◌+◌, length};
 
+use crate::close::{gather, hand_back};
 use crate::kept::Kept;
 use crate::plays::{Draw, Drawing, Enter, Leave, Now, Seats, Turns};
 use crate::seen::{Busy, Held, Key, View};
@@ -13,16 +14,17 @@ use std::snapshot::Snapshot;
 use vfm_types::{Desc, Entry, NoMemory};
 
 /// Cells that seats enter one at a time, and the count of all stamps.
+#[derive(Drop)]
 pub struct Board<T: Kept> {
     table: Table<Option<T>, View<T::State>, Key<T>, Turns<T>, Global>,
     pub ghost words: { table.shared.table_id.words ≡ table.shared.table_id.slots + 1 },
     pub ghost cells: { length table.shared.key.cells.value.items ≡ table.shared.table_id.slots },
-    pub ghost few: { table.shared.table_id.slots ≤ 1100 },
-    pub ghost seats: { table.shared.key.seats ≤ 64 },
+    pub ghost few: { (0 < table.shared.table_id.slots) × (table.shared.table_id.slots ≤ 1100) },
+    pub ghost seats: { (0 < table.shared.key.seats) × (table.shared.key.seats ≤ 64) },
 }
 
 impl<T: Kept + Drop> Board<T> {
-    ghost use Rattle.std.specs.Prelude.{◌≢◌, ◌<◌, ◌^◌, ℕ, true, false, IfOk, IfErr, IsTrue, All};
+    ghost use Rattle.std.specs.Prelude.{◌≢◌, ◌^◌, ℕ, true, false, IfOk, IfErr, IsTrue, All};
     ghost use Rattle.vfm_turn.specs.Seen.{is_held, are_held, are_rising, IsSettled, entered, met, shown, drew, noted, left, drawn, touches_in};
     ghost use Rattle.vfm_turn.specs.Words.{IsTicketOf, cells_of, seats_of, desc_of, number_of, seen_of, holds_of, records_of, notes_of};
 
@@ -136,7 +138,29 @@ impl<T: Kept + Drop> Board<T> {
     }
 }
 
-ghost use Rattle.std.specs.Prelude.{true, ◌<◌, ◌++◌, take, drop, map, vec_len};
+impl<T: Kept + Drop> Board<T> {
+    ghost use Rattle.std.specs.Prelude.{◌≢◌, ◌^◌, ℕ, true, false, IfOk, IfErr, IsTrue, All};
+    ghost use Rattle.std.specs.Prelude.{[], map, slice_get, Some};
+    ghost use Rattle.vfm_turn.specs.Order.{has};
+    ghost use Rattle.vfm_turn.specs.Words.{IsTicketOf, cells_of, seats_of, desc_of, started_of, number_of, holds_of, past_told};
+    ghost use Rattle.vfm_turn.specs.History.{IsHistory};
+
+    /// Closes the board with all its tickets, none of which holds a cell, and gives the values back in the order of
+    /// their cells. Takes no memory.
+    pub fn close(self, tickets: Vec<Ticket<T>>) -> Vec<T>
+        requires tickets { All (λ t. IsTicketOf self t × (holds_of t ≡ [])) tickets.items }
+        requires all { (k : ℕ) → k < seats_of self → has k (map number_of tickets.items) ≡ true }
+        ensures count { length result.items ≡ cells_of self }
+        ensures fits { (c : ℕ) (x : T) → slice_get result.items c ≡ Some x → T.fits (desc_of self) c x }
+        ensures history { IsHistory (record { started = started_of T.state self; told = map past_told tickets.items; ended = map T.state result.items }) }
+    {
+        let Board { table } = self;
+        let (seat, room) = gather(&table.shared, tickets);
+        hand_back(table.close_with(seat), room)
+    }
+}
+
+ghost use Rattle.std.specs.Prelude.{true, ◌++◌, take, drop, map, vec_len};
 ghost use Rattle.vfm_turn.specs.Order.{has, held_cell};
 ghost use Rattle.vfm_turn.specs.Place.{place_in};
 

@@ -7,14 +7,17 @@
 #![tactic(auto)]
 
 mod board;
+mod close;
 mod kept;
 mod laws;
 mod plays;
 mod seen;
+mod start;
 mod ticket;
 
 pub use board::Board;
 pub use kept::Kept;
+pub use laws::{Local, one_run, one_run_to_each_note};
 
 pub use seen::{Busy, Drawn, Key, Note, Past, Stand, Touch, View};
 pub use ticket::Ticket;

@@ -8,6 +8,7 @@ use crate::seen::{Held, View};
 use atomic_table::Seat;
 
 /// The right to enter the cells of one board and to draw entries on it.
+#[derive(Drop)]
 pub struct Ticket<T: Kept> {
     pub(crate) number: u32,
     pub(crate) seat: Seat<Option<T>, View<T::State>>,

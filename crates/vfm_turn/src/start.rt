@@ -1,0 +1,1 @@
+//! The memory of a board, and its seats at the start.
