@@ -4,7 +4,7 @@ use mathlib.Core.Logic.{dite}
 use mathlib.Core.Option.{some, some-injective, some-ne-none}
 use native.Mathlib.Decide.{ℕ_discrete}
 use lib.ListN.{get_elem?}
-use Rattle.std.specs.List.{All, slice_get}
+use Rattle.std.specs.List.{All, slice_get, range_with_len}
 use Rattle.std.proofs.lemmas.Bool.{false≢true}
 use Rattle.std.proofs.lemmas.List.{length-map}
 use Rattle.atomic_table.specs.Table.{State, Final, Seen}
@@ -210,3 +210,33 @@ module _ {T Z : Type 0} {g : Ghosts T Z} where
   pub numbers_told : (ts : List (Ticket T Z g)) → map past_number (map past_told ts) ≡ map number_of ts
   numbers_told [] = refl
   numbers_told (t ∷ ts) = let a : t.seat.me.0.number ≡ t.number = t.numbered in let r = numbers_told ts in cc
+
+module _ {X : Type 0} where
+  not_home : (slots : List (Option X)) (values : List X) → None ∷ slots ≡ map Some values → ⊥
+  not_home slots [] e = cc
+  not_home slots (x ∷ xs) e = cc
+
+  -- the last slot, and those before it
+  pub home_parts : (xs : List (Option X)) (o : Option X) → AreAllHome (xs ++ o ∷ []) → (v : X) × (o ≡ Some v) × AreAllHome xs × (values_in (xs ++ o ∷ []) ≡ values_in xs ++ v ∷ [])
+  home_parts [] (Some v) e = (v, refl, refl, refl)
+  home_parts [] None e = absurd (not_home [] [] e)
+  home_parts (Some y ∷ xs) o e = let rest : xs ++ o ∷ [] ≡ map Some (values_in (xs ++ o ∷ [])) = cc in let r = home_parts xs o rest in
+      (r.0, r.1, ap (λ zs. Some y ∷ zs) r.2, ap (λ zs. y ∷ zs) r.3)
+  home_parts (None ∷ xs) o e = absurd (not_home (xs ++ o ∷ []) (values_in (xs ++ o ∷ [])) e)
+
+pub range_end : (a k : ℕ) → range_with_len a (k + 1) ≡ range_with_len a k ++ (a + k) ∷ []
+range_end a zero = let e : a + 0 ≡ a = omega arith in ap (λ (j : ℕ). j ∷ []) (sym e)
+range_end a (suc k) = let e : suc k + 1 ≡ suc (k + 1) = omega arith in let h : a + 1 + k ≡ a + suc k = omega arith in
+    ap (range_with_len a) e ∙ (ap (λ ys. a ∷ ys) (range_end (a + 1) k) ∙ ap (λ (j : ℕ). a ∷ (range_with_len (a + 1) k ++ j ∷ [])) h)
+
+-- each number below k is among the first k
+pub has_range : (a k j : ℕ) → a ≤ j → j < a + k → has j (range_with_len a k) ≡ true
+has_range a zero j low high = absurd (omega arith)
+has_range a (suc k) j low high = dite (ℕ_discrete a j) (λ same. rw (eq-eqb a j same) refl) (λ other. rw (ne_eqb a j other) (has_range (a + 1) k j (omega arith) (omega arith)))
+
+pub values_some : {X : Type 0} (xs : List X) → values_in (map (λ (x : X). Some x) xs) ≡ xs
+values_some [] = refl
+values_some (x ∷ xs) = ap (λ ys. x ∷ ys) (values_some xs)
+
+pub home_some : {X : Type 0} (slots : List (Option X)) (xs : List X) → slots ≡ map (λ (x : X). Some x) xs → AreAllHome slots
+home_some slots xs e = e ∙ ap (map (λ x. Some x)) (sym (ap values_in e ∙ values_some xs))

@@ -24,7 +24,7 @@ use Rattle.vfm_turn.specs.declared.seen.Key.{Key}
 use Rattle.vfm_turn.specs.Seen.{stand, touch, drawn, note, after_in}
 use Rattle.vfm_turn.specs.Log.{Each, state_after, Begins, Ran, drawn_by, earlier, Stood, IsNote, IsPast}
 use Rattle.vfm_turn.specs.Rule.{Ruled, first_view, stands_in, IsSpent, IsTakenIn, IsHeldBy, IsLive}
-use Rattle.vfm_turn.specs.Steps.{stands_without, stands_after, view_entered, view_met, view_drew, view_noted, view_left, more_made, new_view, past_of, taken_in, spent_view, entering, entering_at, drawing, noting, leaving, leaving_at}
+use Rattle.vfm_turn.specs.Steps.{stands_without, stands_after, view_entered, view_met, view_drew, view_noted, view_left, has_made, new_view, past_of, taken_in, spent_view, entering, entering_at, drawing, noting, leaving, leaving_at}
 use Rattle.vfm_turn.proofs.Lists.{each_weaken, each_snoc, at_lt, at_end, same_at}
 use Rattle.vfm_turn.proofs.Logs.{drawn_here, drawn_else, drawn_none, length_bound, earlier_all, note_more, after_else, begins, own_stamps_below, answers_below}
 
@@ -158,7 +158,7 @@ module _ {T Z : Type 0} (state : T → Z) (fits : Desc → ℕ → T → Type 0)
 
   -- a step of one seat, which stays there
   moves : (s : S) (r : Rule s) (id : ℕ) (v w : View Z) (words' : List ℕ) (homes' : List (mathlib.Core.Option.Option (Option T))) (log' : List (Drawn Z))
-      → get_elem? s.views id ≡ some v → v.live ≡ true → w.live ≡ true → w.made ≡ v.made → length words' ≡ length s.words → length homes' ≡ length s.homes
+      → get_elem? s.views id ≡ some v → v.live ≡ true → w.live ≡ true → w.newest ≡ v.newest → length words' ≡ length s.words → length homes' ≡ length s.homes
       → get_or words' 0 0 ≡ length log' → Ran n r.at log' → Each (λ e. e.by < length s.views) log' → ((k : ℕ) → length (drawn_by k log') ≤ 4294967296)
       → ((c : ℕ) → c < n → get_or words' (c + 1) 0 ≡ 0 → Home r.at log' homes' c)
       → ((c k : ℕ) → c < n → get_or words' (c + 1) 0 ≡ k + 1 → Held (set s.views id w) c k)
@@ -184,9 +184,8 @@ module _ {T Z : Type 0} (state : T → Z) (fits : Desc → ℕ → T → Type 0)
         (λ (t : (k ≢ id) × (get_elem? s.views k ≡ some u)). others k u t.0 t.1 (r.alive k u t.1 there)) (at_set s.views id k w u here);
     spent = λ k u here gone. ⊎_elim (λ (t : (k ≡ id) × (w ≡ u)). absurd (false≢true (sym gone ∙ (ap (λ (x : View Z). x.live) (sym t.1) ∙ live'))))
         (λ (t : (k ≢ id) × (get_elem? s.views k ≡ some u)). r.spent k u t.1 gone) (at_set s.views id k w u here);
-    made = λ u here there. ⊎_elim (λ (t : (0 ≡ id) × (w ≡ u)). let m = r.made v (subst (λ (j : ℕ). get_elem? s.views j ≡ some v) (sym t.0) at) live in
-            ap (λ (x : View Z). x.made) (sym t.1) ∙ (made ∙ (m ∙ sym len)))
-        (λ (t : (0 ≢ id) × (get_elem? s.views 0 ≡ some u)). r.made u t.1 there ∙ sym len) (at_set s.views id 0 w u here);
+    newest = λ k u here there young. ⊎_elim (λ (t : (k ≡ id) × (w ≡ u)). len ∙ (r.newest id v at live (sym made ∙ (ap (λ (x : View Z). x.newest) t.1 ∙ young)) ∙ ap (λ (j : ℕ). j + 1) (sym t.0)))
+        (λ (t : (k ≢ id) × (get_elem? s.views k ≡ some u)). len ∙ r.newest k u t.1 there young) (at_set s.views id k w u here);
   }
 
   -- what others took in stays taken in over a step of a seat that is there
@@ -199,7 +198,7 @@ module _ {T Z : Type 0} (state : T → Z) (fits : Desc → ℕ → T → Type 0)
   )
 
   -- a step that leaves the words, the cells and the log as they are
-  stays : (s : S) (r : Rule s) (i id : ℕ) (v w : View Z) → get_elem? s.views id ≡ some v → v.live ≡ true → w.live ≡ true → w.made ≡ v.made → w.holds ≡ v.holds
+  stays : (s : S) (r : Rule s) (i id : ℕ) (v w : View Z) → get_elem? s.views id ≡ some v → v.live ≡ true → w.live ≡ true → w.newest ≡ v.newest → w.holds ≡ v.holds
       → Live r.at r.log s.words s.views id w → Rule record { words = set s.words i (get_or s.words i 0); homes = s.homes; views = set s.views id w }
   stays s r i id v w at live live' made holds mine = let on = taken_on s r.at r.log r.log id v w at live (λ x h. h) (λ k h. refl) in
       subst (λ (ws : List ℕ). Rule record { words = ws; homes = s.homes; views = set s.views id w }) (sym (set-get_or s.words i 0))
@@ -419,15 +418,15 @@ module _ {T Z : Type 0} (state : T → Z) (fits : Desc → ℕ → T → Type 0)
       subst (λ (d : ℕ). Allows Rule slots id me (c + 1) (λ _. 0) (λ _. leaving_at d me)) (sym e)
       (subst (λ (cs : List (ℕ × Option T)). Allows Rule slots id (me.0, cs) (c + 1) (λ _. 0) (λ _. leaving_at c (me.0, cs))) (sym first) (leaves_at slots id c me.0 x (rest me.1) live holds settled fit))
 
-  -- the first seat makes another
-  pub splits : (v : View Z) → v.live ≡ true → v.made < key.seats → Splits Rule 0 v (more_made v) (new_view v)
-  splits v live room s r at =
-      let l = r.alive 0 v at live in let views = s.views in let left = more_made v in let right = new_view v in let views' = set views 0 left ++ right ∷ [] in
-      let made : v.made ≡ length views = r.made v at live in let len : length views' ≡ length views + 1 = length-append (set views 0 left) (right ∷ []) ∙ ap (λ (j : ℕ). j + 1) (length-set views 0 left) in
-      let spent_more : (k : ℕ) → IsSpent views k → IsSpent views' k = λ k gone. let g = spent_on views 0 v left at live k gone in (g.0, at_longer (set views 0 left) (right ∷ []) k g.0 g.1, g.2) in
+  -- the newest seat makes another
+  pub splits : (id : ℕ) (v : View Z) → v.live ≡ true → v.newest ≡ true → v.number + 1 < key.seats → Splits Rule id v (has_made v) (new_view v)
+  splits id v live young room s r at =
+      let l = r.alive id v at live in let views = s.views in let left = has_made v in let right = new_view v in let views' = set views id left ++ right ∷ [] in
+      let own : v.number ≡ id = l.numbered in let last : length views ≡ id + 1 = r.newest id v at live young in let made : v.number + 1 ≡ length views = (omega arith) in let len : length views' ≡ length views + 1 = length-append (set views id left) (right ∷ []) ∙ ap (λ (j : ℕ). j + 1) (length-set views id left) in
+      let spent_more : (k : ℕ) → IsSpent views k → IsSpent views' k = λ k gone. let g = spent_on views id v left at live k gone in (g.0, at_longer (set views id left) (right ∷ []) k g.0 g.1, g.2) in
       let on : (k : ℕ) (u : View Z) → Live r.at r.log s.words views k u → Live r.at r.log s.words views' k u = λ k u. lives_on n r.at r.log r.log s.words s.words views views' key.desc key.seats k u refl (λ q h. h) (λ q h. h)
             (λ p t. (t.0, spent_more p.number t.1)) in
-      let first : Live r.at r.log s.words views 0 left = record {
+      let first : Live r.at r.log s.words views id left = record {
             numbered = l.numbered;
             described = l.described;
             seated = l.seated;
@@ -446,13 +445,13 @@ module _ {T Z : Type 0} (state : T → Z) (fits : Desc → ℕ → T → Type 0)
             taken = tt;
           } in
       let within = l.seated in
-      let old_len = length-set views 0 left in
-      let each : (P : ℕ → View Z → Type 0) → P 0 left → ((k : ℕ) (u : View Z) → get_elem? views k ≡ some u → P k u) → P (length views) right → (k : ℕ) (u : View Z) → get_elem? views' k ≡ some u → P k u
+      let old_len = length-set views id left in
+      let each : (P : ℕ → View Z → Type 0) → P id left → ((k : ℕ) (u : View Z) → k ≢ id → get_elem? views k ≡ some u → P k u) → P (length views) right → (k : ℕ) (u : View Z) → get_elem? views' k ≡ some u → P k u
             = λ P here others new k u there. ⊎_elim
-            (λ (t : get_elem? (set views 0 left) k ≡ some u). ⊎_elim (λ (q : (k ≡ 0) × (left ≡ u)). subst (λ (p : ℕ × View Z). P p.0 p.1) (λ i. (sym q.0 i, q.1 i)) here)
-                (λ (q : (k ≢ 0) × (get_elem? views k ≡ some u)). others k u q.1) (at_set views 0 k left u t))
-            (λ (t : (k ≡ length (set views 0 left)) × (right ≡ u)). subst (λ (p : ℕ × View Z). P p.0 p.1) (λ i. (sym (t.0 ∙ old_len) i, t.1 i)) new)
-            (at_end (set views 0 left) right k u there) in
+            (λ (t : get_elem? (set views id left) k ≡ some u). ⊎_elim (λ (q : (k ≡ id) × (left ≡ u)). subst (λ (p : ℕ × View Z). P p.0 p.1) (λ i. (sym q.0 i, q.1 i)) here)
+                (λ (q : (k ≢ id) × (get_elem? views k ≡ some u)). others k u q.0 q.1) (at_set views id k left u t))
+            (λ (t : (k ≡ length (set views id left)) × (right ≡ u)). subst (λ (p : ℕ × View Z). P p.0 p.1) (λ i. (sym (t.0 ∙ old_len) i, t.1 i)) new)
+            (at_end (set views id left) right k u there) in
       record {
         log = r.log;
         at = r.at;
@@ -467,13 +466,10 @@ module _ {T Z : Type 0} (state : T → Z) (fits : Desc → ℕ → T → Type 0)
         within = omega arith;
         limit = r.limit;
         home = r.home;
-        held = λ c k inside word. let h = r.held c k inside word in let g = held_on views 0 k c v left at (λ e. e) h.0 h.1 h.2 in (g.0, at_longer (set views 0 left) (right ∷ []) k g.0 g.1, g.2);
-        alive = each (λ k u. u.live ≡ true → Live r.at r.log s.words views' k u) (λ h. on 0 left first) (λ k u there h. on k u (r.alive k u there h)) (λ h. second);
-        spent = each (λ k u. u.live ≡ false → u.holds ≡ []) (λ h. absurd (false≢true (sym h ∙ live))) r.spent (λ h. refl);
-        made = λ u there h. let some_views = r.first in ⊎_elim
-            (λ (t : get_elem? (set views 0 left) 0 ≡ some u). ap (λ (x : View Z). x.made) (same_at (set views 0 left) 0 u left t (set_here views 0 left (omega arith))) ∙ (ap (λ (j : ℕ). j + 1) made ∙ sym len))
-            (λ (t : (0 ≡ length (set views 0 left)) × (right ≡ u)). let a = t.0 in absurd (omega arith))
-            (at_end (set views 0 left) right 0 u there);
+        held = λ c k inside word. let h = r.held c k inside word in let g = held_on views id k c v left at (λ e. e) h.0 h.1 h.2 in (g.0, at_longer (set views id left) (right ∷ []) k g.0 g.1, g.2);
+        alive = each (λ k u. u.live ≡ true → Live r.at r.log s.words views' k u) (λ h. on id left first) (λ k u other there h. on k u (r.alive k u there h)) (λ h. second);
+        spent = each (λ k u. u.live ≡ false → u.holds ≡ []) (λ h. absurd (false≢true (sym h ∙ live))) (λ k u other. r.spent k u) (λ h. refl);
+        newest = each (λ k u. u.live ≡ true → u.newest ≡ true → length views' ≡ k + 1) (λ h y. absurd (false≢true y)) (λ k u other there h y. let e = r.newest k u there h y in absurd (other (omega arith))) (λ h y. len);
       }
 
   -- a seat takes another in that holds no cell
@@ -524,12 +520,11 @@ module _ {T Z : Type 0} (state : T → Z) (fits : Desc → ℕ → T → Type 0)
             (g.0, set_else (set views id both) other k spent_view elsewhere ∙ g.1, g.2);
         alive = each (λ k u. u.live ≡ true → Live r.at r.log s.words views' k u) (λ h. mine) (λ h. absurd (false≢true h)) (λ k u h there. on k u (r.alive k u h there));
         spent = each (λ k u. u.live ≡ false → u.holds ≡ []) (λ h. absurd (false≢true (sym h ∙ live))) (λ h. refl) r.spent;
-        made = λ u h there. each (λ k u. k ≡ 0 → u.live ≡ true → u.made ≡ length views') (λ e y. r.made v (subst (λ (j : ℕ). get_elem? views j ≡ some v) e at) live ∙ sym len) (λ e y. absurd (false≢true y))
-            (λ k u h e y. r.made u (subst (λ (j : ℕ). get_elem? views j ≡ some u) e h) y ∙ sym len) 0 u h refl there;
+        newest = each (λ k u. u.live ≡ true → u.newest ≡ true → length views' ≡ k + 1) (λ h y. len ∙ r.newest id v at live y) (λ h y. absurd (false≢true h)) (λ k u h there y. len ∙ r.newest k u h there y);
       }
 
   -- the board at the start
-  opens : (words : List ℕ) (slots : List (Option T)) → words ≡ replicate (n + 1) 0 → slots ≡ map Some key.cells.value.items → 0 < n → 0 < key.seats → key.seats ≤ 64
+  pub opens : (words : List ℕ) (slots : List (Option T)) → words ≡ replicate (n + 1) 0 → slots ≡ map Some key.cells.value.items → 0 < n → 0 < key.seats → key.seats ≤ 64
       → ((c : ℕ) (x : T) → get_elem? key.cells.value.items c ≡ some x → fits key.desc.value c x) → Rule (opening words slots (first_view key.seats key.desc))
   opens words slots zeros filled some_cells some_seats few fit =
       let xs = key.cells.value.items in
@@ -563,5 +558,5 @@ module _ {T Z : Type 0} (state : T → Z) (fits : Desc → ℕ → T → Type 0)
           taken = tt;
         });
         spent = only (λ k u. u.live ≡ false → u.holds ≡ []) (λ h. refl);
-        made = λ u h there. only (λ k u. u.made ≡ 1) refl 0 u h;
+        newest = only (λ k u. u.live ≡ true → u.newest ≡ true → 1 ≡ k + 1) (λ h y. omega arith);
       }

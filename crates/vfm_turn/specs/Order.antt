@@ -1,5 +1,6 @@
 -- The cells that a ticket holds, in the order in which it entered them.
-use Rattle.std.specs.Prelude.{◌≡◌, ℕ, ◌==◌, Bool, true, false, not, ◌&&◌, ◌||◌, nat_lt, List, [], ◌∷◌, map, Option, Some, None}
+use Rattle.std.specs.Prelude.{◌≡◌, ℕ, ◌≤◌, ◌==◌, All, Vec, vec_capacity, Bool, true, false, not, ◌&&◌, ◌||◌, nat_lt, List, [], ◌∷◌, map, Option, Some, None}
+use Rattle.std.specs.Global.{Global}
 use Rattle.vfm_turn.specs.declared.seen.Stand.{Stand}
 use Rattle.vfm_turn.specs.declared.seen.Held.{Held}
 
@@ -37,3 +38,7 @@ values_in (None ∷ slots) = values_in slots
 -- each slot has its value
 abbrev pub AreAllHome : {T : Type 0} → List (Option T) → Type 0
 AreAllHome slots = slots ≡ map Some (values_in slots)
+
+-- empty lists with room for so many cells each
+abbrev pub AreRooms : {T : Type 0} → ℕ → List (Vec (Held T) Global) → Type 0
+AreRooms cells = All (λ v. (v.items ≡ []) × (cells ≤ vec_capacity v))

@@ -3,7 +3,7 @@
 use Rattle.std.specs.Prelude.{◌≡◌, ℕ, ◌+◌, ◌<◌, ◌≤◌, ◌==◌, Bool, true, false, ◌||◌, List, [], ◌∷◌, ◌++◌, length, slice_index, Option, Some, None}
 use mathlib.Core.Option.{some}
 use lib.ListN.{get_elem?}
-use Rattle.atomic_table.specs.Table.{State}
+use Rattle.atomic_table.specs.Table.{State, Me}
 use Rattle.std.specs.declared.snapshot.Snapshot.{Snapshot}
 use Rattle.vfm_types.specs.declared.desc.Desc.{Desc}
 use Rattle.vfm_turn.specs.declared.seen.Stand.{Stand}
@@ -14,9 +14,17 @@ use Rattle.vfm_turn.specs.declared.seen.Key.{Key}
 use Rattle.vfm_turn.specs.Log.{Each, state_after, Ran, drawn_by, IsNote, IsPast}
 
 module _ {Z : Type 0} where
+  -- what a new seat knows
+  abbrev pub fresh_view : ℕ → ℕ → Snapshot Desc → View Z
+  fresh_view number seats desc = record { live = true; number = number; newest = true; seats = seats; desc = Some desc; holds = []; records = []; notes = []; meetings = []; pasts = [] }
+
+  -- a seat that is there, and knows its number alone
+  abbrev pub IsFreshSeat : {T : Type 0} → ℕ → Me (Option T) (View Z) → Type 0
+  IsFreshSeat number me = (me.1 ≡ []) × (me.0.live ≡ true) × (me.0.number ≡ number) × (me.0.holds ≡ []) × (me.0.records ≡ []) × (me.0.notes ≡ []) × (me.0.meetings ≡ []) × (me.0.pasts ≡ [])
+
   -- what the first seat knows at the start
   abbrev pub first_view : ℕ → Snapshot Desc → View Z
-  first_view seats desc = record { live = true; number = 0; made = 1; seats = seats; desc = Some desc; holds = []; records = []; notes = []; meetings = []; pasts = [] }
+  first_view seats desc = fresh_view 0 seats desc
 
   -- whether a seat holds a cell
   abbrev pub stands_in : ℕ → List (Stand Z) → Bool
@@ -64,4 +72,4 @@ pub record Ruled {T Z : Type 0} (state : T → Z) (fits : Desc → ℕ → T →
   pub held : (c k : ℕ) → c < length key.cells.value.items → slice_index s.words (c + 1) ≡ k + 1 → (v : View Z) × (get_elem? s.views k ≡ some v) × (stands_in c v.holds ≡ true)
   pub alive : (k : ℕ) (v : View Z) → get_elem? s.views k ≡ some v → v.live ≡ true → IsLive (length key.cells.value.items) at log s.words s.views key.desc key.seats k v
   pub spent : (k : ℕ) (v : View Z) → get_elem? s.views k ≡ some v → v.live ≡ false → v.holds ≡ []
-  pub made : (v : View Z) → get_elem? s.views 0 ≡ some v → v.live ≡ true → v.made ≡ length s.views
+  pub newest : (k : ℕ) (v : View Z) → get_elem? s.views k ≡ some v → v.live ≡ true → v.newest ≡ true → length s.views ≡ k + 1

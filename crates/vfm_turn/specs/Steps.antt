@@ -40,13 +40,13 @@ module _ {Z : Type 0} where
   abbrev pub view_left : ℕ → View Z → View Z
   view_left c v = record v { holds = stands_without c v.holds }
 
-  -- one seat more was made
-  abbrev pub more_made : View Z → View Z
-  more_made v = record v { made = v.made + 1 }
+  -- the newest seat has made another
+  abbrev pub has_made : View Z → View Z
+  has_made v = record v { newest = false }
 
-  -- what the seat knows that the first one makes
+  -- what the seat knows that it makes
   abbrev pub new_view : View Z → View Z
-  new_view v = record { live = true; number = v.made; made = 0; seats = v.seats; desc = v.desc; holds = []; records = []; notes = []; meetings = []; pasts = [] }
+  new_view v = record { live = true; number = v.number + 1; newest = true; seats = v.seats; desc = v.desc; holds = []; records = []; notes = []; meetings = []; pasts = [] }
 
   -- what a seat drew and noted
   abbrev pub past_of : View Z → Past Z
@@ -58,7 +58,7 @@ module _ {Z : Type 0} where
 
   -- the one view of each seat that isn't there any more
   abbrev pub spent_view : View Z
-  spent_view = record { live = false; number = 0; made = 0; seats = 0; desc = None; holds = []; records = []; notes = []; meetings = []; pasts = [] }
+  spent_view = record { live = false; number = 0; newest = false; seats = 0; desc = None; holds = []; records = []; notes = []; meetings = []; pasts = [] }
 
 -- Where 0 was found, the seat enters the cell: its slot is out with the seat, with the value, which fits the description, and the value's state is settled.
 -- Else the seat has met the one whose number stood there, which is another.

@@ -4,10 +4,11 @@ ghost use Rattle.std.specs.Prelude.{◌≡◌, ◌<◌, ◌≤◌, ◌+◌, leng
 
 use crate::close::{gather, hand_back};
 use crate::kept::Kept;
-use crate::plays::{Draw, Drawing, Enter, Leave, Now, Seats, Turns};
+use crate::plays::{Draw, Drawing, Enter, Leave, Now, Turns};
 use crate::seen::{Busy, Held, Key, View};
+use crate::start::{Rooms, deal, moved, moved_back, take_memory};
 use crate::ticket::Ticket;
-use atomic_table::{Refused, Seat, Shared, Table};
+use atomic_table::{Refused, Seat, Table};
 use std::alloc::Global;
 use std::marker::Brand;
 use std::snapshot::Snapshot;
@@ -21,6 +22,62 @@ pub struct Board<T: Kept> {
     pub ghost cells: { length table.shared.key.cells.value.items ≡ table.shared.table_id.slots },
     pub ghost few: { (0 < table.shared.table_id.slots) × (table.shared.table_id.slots ≤ 1100) },
     pub ghost seats: { (0 < table.shared.key.seats) × (table.shared.key.seats ≤ 64) },
+}
+
+impl<T: Kept + Drop> Board<T> {
+    ghost use Rattle.std.specs.Prelude.{ℕ, true, map, slice_get, Some, IfOk, IfErr, All};
+    ghost use Rattle.std.specs.List.{range_with_len};
+    ghost use Rattle.vfm_turn.specs.Order.{has};
+    ghost use Rattle.vfm_turn.specs.Seen.{nothing_seen};
+    ghost use Rattle.vfm_turn.specs.Words.{IsTicketOf, cells_of, seats_of, desc_of, started_of, number_of, seen_of};
+
+    /// A board over a description, with these values in its cells, 1 to 1,100, and a ticket for each of its seats, 1 to
+    /// 64, in the order of their numbers. Each value fits the description in its cell. All memory that the board and its
+    /// tickets ever need is taken here; where there is too little, the values come back.
+    pub fn start(
+        alloc: Global,
+        desc: &Desc,
+        mut cells: Vec<T>,
+        seats: u32,
+    ) -> Result<(Board<T>, Vec<Ticket<T>>), (Vec<T>, NoMemory)>
+        requires cells { (0 < length cells.items) × (length cells.items ≤ 1100) }
+        requires seats { (0 < seats) × (seats ≤ 64) }
+        requires fits { (c : ℕ) (x : T) → slice_get cells.items c ≡ Some x → T.fits desc.now c x }
+        ensures refused { IfErr result (λ r. r.0.items ≡ cells.items) }
+        ensures sizes { IfOk result (λ r. (cells_of r.0 ≡ length cells.items) × (seats_of r.0 ≡ seats)) }
+        ensures desc { IfOk result (λ r. desc_of r.0 ≡ desc.now) }
+        ensures started { IfOk result (λ r. started_of T.state r.0 ≡ map T.state cells.items) }
+        ensures numbers { IfOk result (λ r. map number_of r.1.items ≡ range_with_len 0 seats) }
+        ensures all { IfOk result (λ r. (k : ℕ) → k < seats → has k (map number_of r.1.items) ≡ true) }
+        ensures tickets { IfOk result (λ r. All (λ t. IsTicketOf r.0 t × (seen_of t ≡ nothing_seen)) r.1.items) }
+    {
+        let rooms = match take_memory(alloc, cells.len(), seats as usize) {
+            Ok(rooms) => rooms,
+            Err(no_memory) => return Err((cells, no_memory)),
+        };
+        let Rooms {
+            words,
+            mut slots,
+            orders,
+            tickets,
+        } = rooms;
+        let key = Key {
+            desc: Snapshot::of(desc),
+            cells: Snapshot::of(&cells),
+            seats,
+        };
+        moved(&mut cells, &mut slots);
+        match Table::new(alloc, words.as_slice(), slots, &key) {
+            Ok((table, seat)) => {
+                let tickets = deal(alloc, &table.shared, seat, cells, (orders, tickets));
+                Ok((Board { table }, tickets))
+            }
+            Err(Refused { slots }) => {
+                moved_back(slots, &mut cells);
+                Err((cells, NoMemory))
+            }
+        }
+    }
 }
 
 impl<T: Kept + Drop> Board<T> {

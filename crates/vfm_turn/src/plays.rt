@@ -5,7 +5,7 @@ ghost use Rattle.vfm_types.specs.declared.entry.Entry.{Entry};
 ghost use Rattle.vfm_types.specs.declared.entry.Entry.TheVariants.{Begin};
 ghost use Rattle.vfm_turn.specs.declared.seen.Touch.{Touch};
 ghost use Rattle.vfm_turn.specs.Rule.{Ruled, first_view};
-ghost use Rattle.vfm_turn.specs.Steps.{entering, drawing, noting, leaving, more_made, new_view, taken_in, spent_view};
+ghost use Rattle.vfm_turn.specs.Steps.{entering, drawing, noting, leaving, has_made, new_view, taken_in, spent_view};
 
 use crate::kept::Kept;
 use crate::seen::{Key, View};
@@ -66,11 +66,11 @@ impl<T, Z> Play<Option<T>, View<Z>> for Leave {
     ghost then = { leaving };
 }
 
-// The first seat makes another.
+// The newest seat makes another.
 pub(crate) struct Seats;
 
 impl<Z> Split<View<Z>> for Seats {
-    ghost left = { more_made };
+    ghost left = { has_made };
 
     ghost right = { new_view };
 }

@@ -55,8 +55,8 @@ pub struct View<Z> {
     /// Whether the seat is still there; it isn't once another has taken it in.
     pub live: bool,
     pub number: u32,
-    /// How many seats were made so far, in the first seat's view.
-    pub made: u32,
+    /// Whether no seat was made after it. The newest seat makes the next one.
+    pub newest: bool,
     pub seats: u32,
     /// The description that the board was started with.
     pub desc: Option<Snapshot<Desc>>,
@@ -75,6 +75,16 @@ pub struct Key<T> {
     pub desc: Snapshot<Desc>,
     pub cells: Snapshot<Vec<T>>,
     pub seats: u32,
+}
+
+impl<T> Drop for Key<T> {
+    fn drop(self) {
+        let Key {
+            desc: _,
+            cells: _,
+            seats: _,
+        } = self;
+    }
 }
 
 // A held cell, and the value that it was shown to have.
