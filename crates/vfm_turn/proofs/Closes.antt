@@ -133,17 +133,17 @@ module _ {T Z : Type 0} (state : T → Z) (fits : Desc → ℕ → T → Type 0)
       let h = r.held c k inside word in let lt = at_lt s.views k h.0 h.1 in let within = r.within in let l = r.alive id v at live in
       dite (ℕ_discrete v.number k)
       (λ same. let e : h.0 ≡ v = same_at s.views k h.0 v h.1 (subst (λ (j : ℕ). get_elem? s.views j ≡ some v) (sym l.numbered ∙ same) at) in
-          absurd (false≢true (ap (stands_in c) (sym (ap (λ (x : View Z). x.holds) e ∙ bare)) ∙ h.2)))
+      absurd (false≢true (ap (stands_in c) (sym (ap (λ (x : View Z). x.holds) e ∙ bare)) ∙ h.2)))
       (λ other. let g = spent_or s r.at r.log k 0 v.pasts (past_of v) l.taken (all k (omega arith)) other in
-          let e : h.0 ≡ g.0 = same_at s.views k h.0 g.0 h.1 g.1 in
-          absurd (false≢true (ap (stands_in c) (sym (ap (λ (x : View Z). x.holds) e ∙ r.spent k g.0 g.1 g.2)) ∙ h.2))))
+      let e : h.0 ≡ g.0 = same_at s.views k h.0 g.0 h.1 g.1 in
+      absurd (false≢true (ap (stands_in c) (sym (ap (λ (x : View Z). x.holds) e ∙ r.spent k g.0 g.1 g.2)) ∙ h.2))))
 
   abbrev Ending : List ℕ → List (Option T) → ℕ → View Z → Type 0
   Ending words slots id v = Final (Seen (Ruled state fits key) id v) words slots
 
   -- each slot has a value, which fits its cell
   pub comes_home : (words : List ℕ) (slots : List (Option T)) (id : ℕ) (v : View Z) → Ending words slots id v → v.live ≡ true → v.holds ≡ [] → ((k : ℕ) → k < key.seats → has k (map past_number (told v)) ≡ true)
-      → (length slots ≡ n) × ((c : ℕ) → c < length slots → (x : T) × (get_elem? slots c ≡ some (Some x))) 
+      → (length slots ≡ n) × ((c : ℕ) → c < length slots → (x : T) × (get_elem? slots c ≡ some (Some x)))
   comes_home words slots id v f live bare all = let r = f.1.0 in let deep = r.deep in let len = f.3 in (
     omega arith,
     λ c h. let inside : c < n = omega arith in let g = r.home c inside (all_free f.0 r id v f.1.1 live bare all c inside) in (g.0, f.4 c (Some g.0) g.1),
@@ -173,8 +173,11 @@ module _ {Z : Type 0} where
   )
 
   note_same : (n : ℕ) (at bt : ℕ → Z) (log : List (Drawn Z)) → ((c : ℕ) → c < n → at c ≡ bt c) → (note : Note Z) → IsNote n at log note → IsNote n bt log note
-  note_same n at bt log same note h = (h.0, each_weaken (Stood n at log note.answer) (Stood n bt log note.answer)
-      (λ s st. (st.0, st.1 ∙ ap (λ (z : Z). state_after s.cell z (earlier note.answer log)) (same s.cell st.0))) note.stands h.1)
+  note_same n at bt log same note h = (
+    h.0,
+    each_weaken (Stood n at log note.answer) (Stood n bt log note.answer)
+        (λ s st. (st.0, st.1 ∙ ap (λ (z : Z). state_after s.cell z (earlier note.answer log)) (same s.cell st.0))) note.stands h.1,
+  )
 
 module _ {T Z : Type 0} (state : T → Z) (fits : Desc → ℕ → T → Type 0) (key : Key T) where
   abbrev Started : List Z
@@ -188,8 +191,7 @@ module _ {T Z : Type 0} (state : T → Z) (fits : Desc → ℕ → T → Type 0)
       let own : (k : ℕ) → k < key.seats → has k (map past_number (told v)) ≡ true = λ k h. ap (λ ps. has k (map past_number ps)) same ∙ all k h in
       let count : length Started ≡ m = length-map xs state in
       let deep = r.deep in let len = f.3 in let filled = ap length home ∙ length-map values (λ (y : T). Some y) in let mapped = length-map values state in
-      let agree : (at : ℕ → Z) → BeganAt Started at → (c : ℕ) → c < m → r.at c ≡ at c = λ at b c h. (let x = there xs c h in r.starts c x.0 (get_elem xs c x.0 x.1) ∙ sym (b c (state x.0) (map_get state xs c x.0 x.1))) in
-      (
+      let agree : (at : ℕ → Z) → BeganAt Started at → (c : ℕ) → c < m → r.at c ≡ at c = λ at b c h. (let x = there xs c h in r.starts c x.0 (get_elem xs c x.0 x.1) ∙ sym (b c (state x.0) (map_get state xs c x.0 x.1))) in (
         r.log,
         record {
           some_cells = omega arith;

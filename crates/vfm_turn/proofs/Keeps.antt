@@ -88,7 +88,7 @@ module _ {Z : Type 0} where
       → (u : View Z) → get_elem? views k ≡ some u → stands_in c u.holds ≡ true → (x : View Z) × (get_elem? (set views id w) k ≡ some x) × (stands_in c x.holds ≡ true)
   held_on views id k c v w at keep u here holds = dite (ℕ_discrete k id)
       (λ e. let same : u ≡ v = same_at views id u v (subst (λ (j : ℕ). get_elem? views j ≡ some u) e here) at in
-          (w, subst (λ (j : ℕ). get_elem? (set views id w) j ≡ some w) (sym e) (set_here views id w (at_lt views id v at)), keep (subst (λ (x : View Z). stands_in c x.holds ≡ true) same holds)))
+      (w, subst (λ (j : ℕ). get_elem? (set views id w) j ≡ some w) (sym e) (set_here views id w (at_lt views id v at)), keep (subst (λ (x : View Z). stands_in c x.holds ≡ true) same holds)))
       (λ n. (u, set_else views id k w n ∙ here, holds))
 
   -- what is so of a seat stays so, where the log and the words change elsewhere
@@ -211,17 +211,17 @@ module _ {T Z : Type 0} (state : T → Z) (fits : Desc → ℕ → T → Type 0)
   pub notes : (slots id : ℕ) (me : M) → me.0.live ≡ true → Allows Rule slots id me 0 (λ m. m) (noting (step slots 0 0 0 none) me)
   notes slots id me live s r deep at lt = let v = me.0 in let l = r.alive id v at live in let found = get_or s.words 0 0 in let w = view_noted found v in
       let stood : Each (Stood n r.at r.log (length r.log)) v.holds = each_weaken (IsHeldBy n r.at r.log s.words id) (Stood n r.at r.log (length r.log))
-            (λ x h. (h.0, h.2 ∙ ap (state_after x.cell (r.at x.cell)) (sym (earlier_all r.log)))) v.holds l.holding in
+      (λ x h. (h.0, h.2 ∙ ap (state_after x.cell (r.at x.cell)) (sym (earlier_all r.log)))) v.holds l.holding in
       let noted : IsNote n r.at r.log (note found v.holds) = (let c = r.counted in omega arith, subst (λ (a : ℕ). Each (Stood n r.at r.log a) v.holds) (sym r.counted) stood) in
       let mine : Live r.at r.log s.words s.views id w = record {
-            numbered = l.numbered;
-            described = l.described;
-            seated = l.seated;
-            drew = l.drew;
-            noted = (noted, l.noted);
-            holding = l.holding;
-            taken = l.taken;
-          } in (
+        numbered = l.numbered;
+        described = l.described;
+        seated = l.seated;
+        drew = l.drew;
+        noted = (noted, l.noted);
+        holding = l.holding;
+        taken = l.taken;
+      } in (
         w,
         keeps,
         tt,
@@ -248,37 +248,37 @@ module _ {T Z : Type 0} (state : T → Z) (fits : Desc → ℕ → T → Type 0)
       let words' = set s.words 0 ((found + 1) % 2 ^ 64) in
       let else_word : (c : ℕ) → get_or words' (c + 1) 0 ≡ get_or s.words (c + 1) 0 = λ c. get_or-set_other s.words 0 (c + 1) ((found + 1) % 2 ^ 64) 0 (λ h. omega arith) in
       let apart : (k c : ℕ) → k ≢ id → get_or s.words (c + 1) 0 ≡ k + 1 → Each (λ t. t.cell ≢ c) ts = λ k c other word. each_weaken (λ t. IsHeldBy n r.at r.log s.words id (stand t.cell t.before)) (λ t. t.cell ≢ c)
-            (λ t h same. other (let a = h.1 in let b = subst (λ (j : ℕ). get_or s.words (j + 1) 0 ≡ id + 1) same h.1 in omega arith)) ts from_held in
+      (λ t h same. other (let a = h.1 in let b = subst (λ (j : ℕ). get_or s.words (j + 1) 0 ≡ id + 1) same h.1 in omega arith)) ts from_held in
       let free : (c : ℕ) → get_or s.words (c + 1) 0 ≡ 0 → Each (λ t. t.cell ≢ c) ts = λ c word. each_weaken (λ t. IsHeldBy n r.at r.log s.words id (stand t.cell t.before)) (λ t. t.cell ≢ c)
-            (λ t h same. let b = subst (λ (j : ℕ). get_or s.words (j + 1) 0 ≡ id + 1) same h.1 in omega arith) ts from_held in
+      (λ t h same. let b = subst (λ (j : ℕ). get_or s.words (j + 1) 0 ≡ id + 1) same h.1 in omega arith) ts from_held in
       let noted = λ (x : Note Z) (h : IsNote n r.at r.log x). note_more n r.at e r.log x h in
       let drawn_apart : (k : ℕ) → k ≢ id → drawn_by k log' ≡ drawn_by k r.log = λ k other. drawn_else k e r.log (λ same. other (sym same ∙ own)) in
       let on = taken_on s r.at r.log log' id v w at live noted drawn_apart in
       let mine : Live r.at log' words' (set s.views id w) id w = record {
-            numbered = own;
-            described = l.described;
-            seated = l.seated;
-            drew = ap (λ (rs : List (Drawn Z)). e ∷ rs) l.drew ∙ sym (drawn_here id e r.log own);
-            noted = each_weaken (IsNote n r.at r.log) (IsNote n r.at log') noted v.notes l.noted;
-            holding = each_after (IsHeldBy n r.at r.log s.words id) (IsHeldBy n r.at log' words' id) ts
-                (λ x h. (h.0, else_word x.cell ∙ h.1, ap (after_in x.cell ts) h.2)) v.holds l.holding;
-            taken = each_weaken (IsTakenIn n r.at r.log s.views) (IsTakenIn n r.at log' (set s.views id w)) on v.pasts l.taken;
-          } in (
+        numbered = own;
+        described = l.described;
+        seated = l.seated;
+        drew = ap (λ (rs : List (Drawn Z)). e ∷ rs) l.drew ∙ sym (drawn_here id e r.log own);
+        noted = each_weaken (IsNote n r.at r.log) (IsNote n r.at log') noted v.notes l.noted;
+        holding = each_after (IsHeldBy n r.at r.log s.words id) (IsHeldBy n r.at log' words' id) ts
+            (λ x h. (h.0, else_word x.cell ∙ h.1, ap (after_in x.cell ts) h.2)) v.holds l.holding;
+        taken = each_weaken (IsTakenIn n r.at r.log s.views) (IsTakenIn n r.at log' (set s.views id w)) on v.pasts l.taken;
+      } in (
         w,
         keeps,
         tt,
         moves s r id v w words' s.homes log' at live live refl (length-set s.words 0 ((found + 1) % 2 ^ 64)) refl
-        (get_or-set_same s.words 0 ((found + 1) % 2 ^ 64) 0 (omega arith) ∙ next)
-        (counted, begins n (λ c. state_after c (r.at c) r.log) ts (each_weaken (λ t. IsHeldBy n r.at r.log s.words id (stand t.cell t.before)) (λ t. (t.cell < n) × (t.before ≡ state_after t.cell (r.at t.cell) r.log)) (λ t h. (h.0, h.2)) ts from_held), r.ran)
-        (omega arith, r.known)
-        (λ k. dite (ℕ_discrete v.number k)
+            (get_or-set_same s.words 0 ((found + 1) % 2 ^ 64) 0 (omega arith) ∙ next)
+            (counted, begins n (λ c. state_after c (r.at c) r.log) ts (each_weaken (λ t. IsHeldBy n r.at r.log s.words id (stand t.cell t.before)) (λ t. (t.cell < n) × (t.before ≡ state_after t.cell (r.at t.cell) r.log)) (λ t h. (h.0, h.2)) ts from_held), r.ran)
+            (omega arith, r.known)
+            (λ k. dite (ℕ_discrete v.number k)
             (λ same. let a = ap length (drawn_here k e r.log same) in let b = ap length (l.drew ∙ ap (λ (j : ℕ). drawn_by j r.log) (sym own ∙ same)) in omega arith)
             (λ other. let a = ap length (drawn_else k e r.log other) in let b = r.few k in omega arith))
-        (λ c inside word. let old = sym (else_word c) ∙ word in let h = r.home c inside old in
+            (λ c inside word. let old = sym (else_word c) ∙ word in let h = r.home c inside old in
             (h.0, h.1, h.2 ∙ sym (after_else c ts (state_after c (r.at c) r.log) (free c old)), h.3))
-        (λ c k inside word. let h = r.held c k inside (sym (else_word c) ∙ word) in held_on s.views id k c v w at (λ b. in_after c ts v.holds ∙ b) h.0 h.1 h.2)
-        mine
-        (λ k u other here. lives_on n r.at r.log log' s.words words' s.views (set s.views id w) key.desc key.seats k u (drawn_apart k other) noted
+            (λ c k inside word. let h = r.held c k inside (sym (else_word c) ∙ word) in held_on s.views id k c v w at (λ b. in_after c ts v.holds ∙ b) h.0 h.1 h.2)
+            mine
+            (λ k u other here. lives_on n r.at r.log log' s.words words' s.views (set s.views id w) key.desc key.seats k u (drawn_apart k other) noted
             (λ x h. (h.0, else_word x.cell ∙ h.1, h.2 ∙ sym (after_else x.cell ts (state_after x.cell (r.at x.cell) r.log) (apart k x.cell other h.1)))) on),
         (
           refl,
@@ -298,32 +298,35 @@ module _ {T Z : Type 0} (state : T → Z) (fits : Desc → ℕ → T → Type 0)
       let else_word : (d : ℕ) → d ≢ c + 1 → get_or words' d 0 ≡ get_or s.words d 0 = λ d other. get_or-set_other s.words (c + 1) d (v.number + 1) 0 other in
       let here_word : get_or words' (c + 1) 0 ≡ id + 1 = get_or-set_same s.words (c + 1) (v.number + 1) 0 (omega arith) ∙ ap (λ (j : ℕ). j + 1) own in
       let on = taken_on s r.at r.log r.log id v w at live (λ q h. h) (λ k h. refl) in
-      let stays_held : (k : ℕ) (q : Stand Z) → IsHeldBy n r.at r.log s.words k q → IsHeldBy n r.at r.log words' k q = λ k q h. (h.0,
-            else_word (q.cell + 1) (λ same. let a = subst (λ (j : ℕ). get_or s.words j 0 ≡ k + 1) same h.1 in omega arith) ∙ h.1, h.2) in
+      let stays_held : (k : ℕ) (q : Stand Z) → IsHeldBy n r.at r.log s.words k q → IsHeldBy n r.at r.log words' k q = λ k q h. (
+        h.0,
+        else_word (q.cell + 1) (λ same. let a = subst (λ (j : ℕ). get_or s.words j 0 ≡ k + 1) same h.1 in omega arith) ∙ h.1,
+        h.2,
+      ) in
       let mine : Live r.at r.log words' (set s.views id w) id w = record {
-            numbered = own;
-            described = l.described;
-            seated = l.seated;
-            drew = l.drew;
-            noted = l.noted;
-            holding = each_snoc (IsHeldBy n r.at r.log words' id) v.holds (stand c (state x)) (each_weaken (IsHeldBy n r.at r.log s.words id) (IsHeldBy n r.at r.log words' id) (stays_held id) v.holds l.holding)
-                (inside, here_word, home.2);
-            taken = each_weaken (IsTakenIn n r.at r.log s.views) (IsTakenIn n r.at r.log (set s.views id w)) on v.pasts l.taken;
-          } in (
+        numbered = own;
+        described = l.described;
+        seated = l.seated;
+        drew = l.drew;
+        noted = l.noted;
+        holding = each_snoc (IsHeldBy n r.at r.log words' id) v.holds (stand c (state x)) (each_weaken (IsHeldBy n r.at r.log s.words id) (IsHeldBy n r.at r.log words' id) (stays_held id) v.holds l.holding)
+            (inside, here_word, home.2);
+        taken = each_weaken (IsTakenIn n r.at r.log s.views) (IsTakenIn n r.at r.log (set s.views id w)) on v.pasts l.taken;
+      } in (
         w,
         takes c (Some x),
         home.1,
         moves s r id v w words' homes' r.log at live live refl (length-set s.words (c + 1) (v.number + 1)) (length-set s.homes c none)
-        (else_word 0 (λ e. omega arith) ∙ r.counted) r.ran r.known r.few
-        (λ d within word. let other : d ≢ c = λ e. (let a = subst (λ (j : ℕ). get_or words' (j + 1) 0 ≡ 0) e word in omega arith) in
+            (else_word 0 (λ e. omega arith) ∙ r.counted) r.ran r.known r.few
+            (λ d within word. let other : d ≢ c = λ e. (let a = subst (λ (j : ℕ). get_or words' (j + 1) 0 ≡ 0) e word in omega arith) in
             let h = r.home d within (sym (else_word (d + 1) (λ e. other (omega arith))) ∙ word) in (h.0, set_else s.homes c d none other ∙ h.1, h.2, h.3))
-        (λ d k within word. dite (ℕ_discrete d c)
+            (λ d k within word. dite (ℕ_discrete d c)
             (λ same. let a : id + 1 ≡ k + 1 = sym here_word ∙ subst (λ (j : ℕ). get_or words' (j + 1) 0 ≡ k + 1) same word in let b : k ≡ id = omega arith in
-                (w, subst (λ (j : ℕ). get_elem? (set s.views id w) j ≡ some w) (sym b) (set_here s.views id w (at_lt s.views id v at)), subst (λ (j : ℕ). stands_in j w.holds ≡ true) (sym same) (in_last c v.holds (state x))))
+            (w, subst (λ (j : ℕ). get_elem? (set s.views id w) j ≡ some w) (sym b) (set_here s.views id w (at_lt s.views id v at)), subst (λ (j : ℕ). stands_in j w.holds ≡ true) (sym same) (in_last c v.holds (state x))))
             (λ other. let h = r.held d k within (sym (else_word (d + 1) (λ e. other (omega arith))) ∙ word) in
-                held_on s.views id k d v w at (in_more d v.holds (stand c (state x))) h.0 h.1 h.2))
-        mine
-        (λ k u other here. lives_on n r.at r.log r.log s.words words' s.views (set s.views id w) key.desc key.seats k u refl (λ q h. h) (stays_held k) on),
+            held_on s.views id k d v w at (in_more d v.holds (stand c (state x))) h.0 h.1 h.2))
+            mine
+            (λ k u other here. lives_on n r.at r.log r.log s.words words' s.views (set s.views id w) key.desc key.seats k u refl (λ q h. h) (stays_held k) on),
         (x, refl, refl, λ desc is. subst (λ (d : Snapshot Desc). fits d.value c x) (some_same key.desc desc (sym l.described ∙ is)) home.3),
       )
 
@@ -336,14 +339,14 @@ module _ {T Z : Type 0} (state : T → Z) (fits : Desc → ℕ → T → Type 0)
       let word : found ≡ k + 1 = omega arith in
       let h = r.held c k inside word in let lt = at_lt s.views k h.0 h.1 in let within = r.within in let seated = l.seated in
       let mine : Live r.at r.log s.words s.views id w = record {
-            numbered = l.numbered;
-            described = l.described;
-            seated = l.seated;
-            drew = l.drew;
-            noted = l.noted;
-            holding = l.holding;
-            taken = l.taken;
-          } in (
+        numbered = l.numbered;
+        described = l.described;
+        seated = l.seated;
+        drew = l.drew;
+        noted = l.noted;
+        holding = l.holding;
+        taken = l.taken;
+      } in (
         w,
         keeps,
         tt,
@@ -362,12 +365,12 @@ module _ {T Z : Type 0} (state : T → Z) (fits : Desc → ℕ → T → Type 0)
   enters slots id c me inside live bare = let e : c + 1 - 1 ≡ c = omega arith in
       subst (λ (d : ℕ). Allows Rule slots id me (c + 1) (λ m. either (eqb m 0) (me.0.number + 1) m) (entering_at state fits d me)) (sym e)
       (λ s r deep at lt. let found = get_or s.words (c + 1) 0 in
-          let G : Bool → Type 0 = λ b. (w : View Z) × (a : Act (Option T)) × Valid s.homes me.1 a × Rule (stepped s (c + 1) (either b (me.0.number + 1) found) id me.1 w a)
-                × MatchBool b
-                  ((x : T) × (carried_after me.1 a ≡ (c, Some x) ∷ me.1) × (w ≡ view_entered c (state x) me.0) × ((desc : Snapshot Desc) → me.0.desc ≡ Some desc → fits desc.value c x))
-                  ((carried_after me.1 a ≡ me.1) × (w ≡ view_met c (found - 1) me.0) × (found - 1 < me.0.seats) × (found - 1 ≢ me.0.number)) in
-          dite (ℕ_discrete found 0) (λ z. subst G (sym (eq-eqb found 0 z)) (hits s r id c me at live inside z))
-          (λ z. subst G (sym (ne_eqb found 0 z)) (misses s r id c me at live inside bare z)))
+      let G : Bool → Type 0 = λ b. (w : View Z) × (a : Act (Option T)) × Valid s.homes me.1 a × Rule (stepped s (c + 1) (either b (me.0.number + 1) found) id me.1 w a)
+      × MatchBool b
+      ((x : T) × (carried_after me.1 a ≡ (c, Some x) ∷ me.1) × (w ≡ view_entered c (state x) me.0) × ((desc : Snapshot Desc) → me.0.desc ≡ Some desc → fits desc.value c x))
+      ((carried_after me.1 a ≡ me.1) × (w ≡ view_met c (found - 1) me.0) × (found - 1 < me.0.seats) × (found - 1 ≢ me.0.number)) in
+      dite (ℕ_discrete found 0) (λ z. subst G (sym (eq-eqb found 0 z)) (hits s r id c me at live inside z))
+      (λ z. subst G (sym (ne_eqb found 0 z)) (misses s r id c me at live inside bare z)))
 
   -- a seat leaves a cell, with a value whose state is the settled one
   leaves_at : (slots id c : ℕ) (v : View Z) (x : T) (cs : List (ℕ × Option T)) → v.live ≡ true → stands_in c v.holds ≡ true
@@ -385,28 +388,28 @@ module _ {T Z : Type 0} (state : T → Z) (fits : Desc → ℕ → T → Type 0)
       let here_word : get_or words' (c + 1) 0 ≡ 0 = get_or-set_same s.words (c + 1) 0 0 (omega arith) in
       let on = taken_on s r.at r.log r.log id v w at live (λ q h. h) (λ k h. refl) in
       let mine : Live r.at r.log words' (set s.views id w) id w = record {
-            numbered = l.numbered;
-            described = l.described;
-            seated = l.seated;
-            drew = l.drew;
-            noted = l.noted;
-            holding = each_weaken (λ q. IsHeldBy n r.at r.log s.words id q × (q.cell ≢ c)) (IsHeldBy n r.at r.log words' id)
-                (λ q h. let other = h.1 in (h.0.0, else_word (q.cell + 1) (λ e. other (omega arith)) ∙ h.0.1, h.0.2)) (stands_without c v.holds) (each_without (IsHeldBy n r.at r.log s.words id) c v.holds l.holding);
-            taken = each_weaken (IsTakenIn n r.at r.log s.views) (IsTakenIn n r.at r.log (set s.views id w)) on v.pasts l.taken;
-          } in (
+        numbered = l.numbered;
+        described = l.described;
+        seated = l.seated;
+        drew = l.drew;
+        noted = l.noted;
+        holding = each_weaken (λ q. IsHeldBy n r.at r.log s.words id q × (q.cell ≢ c)) (IsHeldBy n r.at r.log words' id)
+            (λ q h. let other = h.1 in (h.0.0, else_word (q.cell + 1) (λ e. other (omega arith)) ∙ h.0.1, h.0.2)) (stands_without c v.holds) (each_without (IsHeldBy n r.at r.log s.words id) c v.holds l.holding);
+        taken = each_weaken (IsTakenIn n r.at r.log s.views) (IsTakenIn n r.at r.log (set s.views id w)) on v.pasts l.taken;
+      } in (
         w,
         gives,
         tt,
         moves s r id v w words' homes' r.log at live live refl (length-set s.words (c + 1) 0) (length-set s.homes c (some (Some x)))
-        (else_word 0 (λ e. omega arith) ∙ r.counted) r.ran r.known r.few
-        (λ d within word. dite (ℕ_discrete d c)
+            (else_word 0 (λ e. omega arith) ∙ r.counted) r.ran r.known r.few
+            (λ d within word. dite (ℕ_discrete d c)
             (λ same. subst (Home r.at r.log homes') (sym same) (x, set_here s.homes c (some (Some x)) (omega arith), last, fit))
             (λ other. let h = r.home d within (sym (else_word (d + 1) (λ e. other (omega arith))) ∙ word) in (h.0, set_else s.homes c d (some (Some x)) other ∙ h.1, h.2, h.3)))
-        (λ d k within word. let other : d ≢ c = λ e. (let a = subst (λ (j : ℕ). get_or words' (j + 1) 0 ≡ k + 1) e word in omega arith) in
+            (λ d k within word. let other : d ≢ c = λ e. (let a = subst (λ (j : ℕ). get_or words' (j + 1) 0 ≡ k + 1) e word in omega arith) in
             let h = r.held d k within (sym (else_word (d + 1) (λ e. other (omega arith))) ∙ word) in
             held_on s.views id k d v w at (in_without c d v.holds other) h.0 h.1 h.2)
-        mine
-        (λ k u other here. lives_on n r.at r.log r.log s.words words' s.views (set s.views id w) key.desc key.seats k u refl (λ q h. h)
+            mine
+            (λ k u other here. lives_on n r.at r.log r.log s.words words' s.views (set s.views id w) key.desc key.seats k u refl (λ q h. h)
             (λ q h. (h.0, else_word (q.cell + 1) (λ same. let a = subst (λ (j : ℕ). get_or s.words j 0 ≡ k + 1) same h.1 in other (omega arith)) ∙ h.1, h.2)) on),
         (refl, refl),
       )
@@ -425,33 +428,33 @@ module _ {T Z : Type 0} (state : T → Z) (fits : Desc → ℕ → T → Type 0)
       let own : v.number ≡ id = l.numbered in let last : length views ≡ id + 1 = r.newest id v at live young in let made : v.number + 1 ≡ length views = (omega arith) in let len : length views' ≡ length views + 1 = length-append (set views id left) (right ∷ []) ∙ ap (λ (j : ℕ). j + 1) (length-set views id left) in
       let spent_more : (k : ℕ) → IsSpent views k → IsSpent views' k = λ k gone. let g = spent_on views id v left at live k gone in (g.0, at_longer (set views id left) (right ∷ []) k g.0 g.1, g.2) in
       let on : (k : ℕ) (u : View Z) → Live r.at r.log s.words views k u → Live r.at r.log s.words views' k u = λ k u. lives_on n r.at r.log r.log s.words s.words views views' key.desc key.seats k u refl (λ q h. h) (λ q h. h)
-            (λ p t. (t.0, spent_more p.number t.1)) in
+      (λ p t. (t.0, spent_more p.number t.1)) in
       let first : Live r.at r.log s.words views id left = record {
-            numbered = l.numbered;
-            described = l.described;
-            seated = l.seated;
-            drew = l.drew;
-            noted = l.noted;
-            holding = l.holding;
-            taken = l.taken;
-          } in
+        numbered = l.numbered;
+        described = l.described;
+        seated = l.seated;
+        drew = l.drew;
+        noted = l.noted;
+        holding = l.holding;
+        taken = l.taken;
+      } in
       let second : Live r.at r.log s.words views' (length views) right = record {
-            numbered = made;
-            described = l.described;
-            seated = l.seated;
-            drew = sym (drawn_none (length views) (length views) r.log r.known (omega arith));
-            noted = tt;
-            holding = tt;
-            taken = tt;
-          } in
+        numbered = made;
+        described = l.described;
+        seated = l.seated;
+        drew = sym (drawn_none (length views) (length views) r.log r.known (omega arith));
+        noted = tt;
+        holding = tt;
+        taken = tt;
+      } in
       let within = l.seated in
       let old_len = length-set views id left in
       let each : (P : ℕ → View Z → Type 0) → P id left → ((k : ℕ) (u : View Z) → k ≢ id → get_elem? views k ≡ some u → P k u) → P (length views) right → (k : ℕ) (u : View Z) → get_elem? views' k ≡ some u → P k u
-            = λ P here others new k u there. ⊎_elim
-            (λ (t : get_elem? (set views id left) k ≡ some u). ⊎_elim (λ (q : (k ≡ id) × (left ≡ u)). subst (λ (p : ℕ × View Z). P p.0 p.1) (λ i. (sym q.0 i, q.1 i)) here)
-                (λ (q : (k ≢ id) × (get_elem? views k ≡ some u)). others k u q.0 q.1) (at_set views id k left u t))
-            (λ (t : (k ≡ length (set views id left)) × (right ≡ u)). subst (λ (p : ℕ × View Z). P p.0 p.1) (λ i. (sym (t.0 ∙ old_len) i, t.1 i)) new)
-            (at_end (set views id left) right k u there) in
+      = λ P here others new k u there. ⊎_elim
+      (λ (t : get_elem? (set views id left) k ≡ some u). ⊎_elim (λ (q : (k ≡ id) × (left ≡ u)). subst (λ (p : ℕ × View Z). P p.0 p.1) (λ i. (sym q.0 i, q.1 i)) here)
+      (λ (q : (k ≢ id) × (get_elem? views k ≡ some u)). others k u q.0 q.1) (at_set views id k left u t))
+      (λ (t : (k ≡ length (set views id left)) × (right ≡ u)). subst (λ (p : ℕ × View Z). P p.0 p.1) (λ i. (sym (t.0 ∙ old_len) i, t.1 i)) new)
+      (at_end (set views id left) right k u there) in
       record {
         log = r.log;
         at = r.at;
@@ -487,19 +490,19 @@ module _ {T Z : Type 0} (state : T → Z) (fits : Desc → ℕ → T → Type 0)
       let newest : IsTakenIn n r.at r.log views' (past_of w) = ((lw.drew ∙ ap (λ (j : ℕ). drawn_by j r.log) (sym lw.numbered), lw.noted), subst (IsSpent views') (sym lw.numbered) gone) in
       let lb = on id v l in
       let mine : Live r.at r.log s.words views' id both = record {
-            numbered = l.numbered;
-            described = l.described;
-            seated = l.seated;
-            drew = l.drew;
-            noted = l.noted;
-            holding = l.holding;
-            taken = (newest, lb.taken);
-          } in
+        numbered = l.numbered;
+        described = l.described;
+        seated = l.seated;
+        drew = l.drew;
+        noted = l.noted;
+        holding = l.holding;
+        taken = (newest, lb.taken);
+      } in
       let each : (P : ℕ → View Z → Type 0) → P id both → P other spent_view → ((k : ℕ) (u : View Z) → get_elem? views k ≡ some u → P k u) → (k : ℕ) (u : View Z) → get_elem? views' k ≡ some u → P k u
-            = λ P here left others k u h. ⊎_elim (λ (q : (k ≡ other) × (spent_view ≡ u)). subst (λ (p : ℕ × View Z). P p.0 p.1) (λ i. (sym q.0 i, q.1 i)) left)
-            (λ (q : (k ≢ other) × (get_elem? (set views id both) k ≡ some u)). ⊎_elim (λ (t : (k ≡ id) × (both ≡ u)). subst (λ (p : ℕ × View Z). P p.0 p.1) (λ i. (sym t.0 i, t.1 i)) here)
-                (λ (t : (k ≢ id) × (get_elem? views k ≡ some u)). others k u t.1) (at_set views id k both u q.1))
-            (at_set (set views id both) other k spent_view u h) in
+      = λ P here left others k u h. ⊎_elim (λ (q : (k ≡ other) × (spent_view ≡ u)). subst (λ (p : ℕ × View Z). P p.0 p.1) (λ i. (sym q.0 i, q.1 i)) left)
+      (λ (q : (k ≢ other) × (get_elem? (set views id both) k ≡ some u)). ⊎_elim (λ (t : (k ≡ id) × (both ≡ u)). subst (λ (p : ℕ × View Z). P p.0 p.1) (λ i. (sym t.0 i, t.1 i)) here)
+      (λ (t : (k ≢ id) × (get_elem? views k ≡ some u)). others k u t.1) (at_set views id k both u q.1))
+      (at_set (set views id both) other k spent_view u h) in
       record {
         log = r.log;
         at = r.at;
@@ -516,7 +519,7 @@ module _ {T Z : Type 0} (state : T → Z) (fits : Desc → ℕ → T → Type 0)
         home = r.home;
         held = λ c k inside word. let h = r.held c k inside word in let g = held_on views id k c v both at (λ e. e) h.0 h.1 h.2 in
             let elsewhere : k ≢ other = λ e. (let same : g.0 ≡ w = same_at (set views id both) other g.0 w (subst (λ (j : ℕ). get_elem? (set views id both) j ≡ some g.0) e g.1) there in
-                false≢true (ap (stands_in c) (sym (ap (λ (x : View Z). x.holds) same ∙ bare)) ∙ g.2)) in
+            false≢true (ap (stands_in c) (sym (ap (λ (x : View Z). x.holds) same ∙ bare)) ∙ g.2)) in
             (g.0, set_else (set views id both) other k spent_view elsewhere ∙ g.1, g.2);
         alive = each (λ k u. u.live ≡ true → Live r.at r.log s.words views' k u) (λ h. mine) (λ h. absurd (false≢true h)) (λ k u h there. on k u (r.alive k u h there));
         spent = each (λ k u. u.live ≡ false → u.holds ≡ []) (λ h. absurd (false≢true (sym h ∙ live))) (λ h. refl) r.spent;

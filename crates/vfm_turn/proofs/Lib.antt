@@ -5,4 +5,3 @@ pub mod Tickets
 pub mod Calls
 pub mod Runs
 pub mod Closes
-

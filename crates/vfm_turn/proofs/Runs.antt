@@ -72,7 +72,7 @@ module _ {Z : Type 0} where
   after_at [] zs c z e = e
   after_at (t ∷ ts) zs c z e = dite (ℕ_discrete t.cell c)
       (λ same. rw (eq-eqb t.cell c same) (let lt = get_some zs c z e in let len = after_length ts zs in
-          subst (λ (j : ℕ). slice_get (set (after_all ts zs) j t.after) c ≡ Some t.after) (sym same) (get_set_here (after_all ts zs) c t.after (omega arith))))
+      subst (λ (j : ℕ). slice_get (set (after_all ts zs) j t.after) c ≡ Some t.after) (sym same) (get_set_here (after_all ts zs) c t.after (omega arith))))
       (λ other. rw (ne_eqb t.cell c other) (get_set_else (after_all ts zs) t.cell c t.after (λ q. other (sym q)) ∙ after_at ts zs c z e))
 
   -- the states of all cells after the whole log
@@ -133,7 +133,7 @@ module _ {Z : Type 0} where
   run_of : (allows : Entry → List (Touch Z) → Type 0) (closing : Closing Z) (log : List (Drawn Z)) (at : ℕ → Z) → BeganAt closing.started at → IsLogOf closing log → AreAllowed allows closing → IsRun allows closing.started log closing.ended
   run_of allows closing log at b is right = let n = length closing.started in
       let same : closing.ended ≡ states_after closing.started log = same_lists closing.ended (states_after closing.started log) (is.cells ∙ sym (states_length closing.started log))
-            (λ c z e. let lt = get_some closing.ended c z e in let cells = is.cells in states_at closing.started at log b c (omega arith) ∙ ap (λ (y : Z). Some y) (sym (is.ended at b c z e))) in
+      (λ c z e. let lt = get_some closing.ended c z e in let cells = is.cells in states_at closing.started at log b c (omega arith) ∙ ap (λ (y : Z). Some y) (sym (is.ended at b c z e))) in
       subst (IsRun allows closing.started log) (sym same) (runs allows closing.started at log b (is.ran at b) (allowed allows closing log at b is right))
 
   ran_drop : (n : ℕ) (at : ℕ → Z) (k : ℕ) (log : List (Drawn Z)) → Ran n at log → Ran n at (drop k log)
@@ -165,4 +165,4 @@ module _ {Z : Type 0} where
   runs_to_notes allows closing log is right = let b = at_of closing.started is.some_cells in let n = length closing.started in
       let Good : Note Z → Type 0 = λ note. (note.answer ≤ length log) × ((zs : List Z) × IsRun allows closing.started (earlier note.answer log) zs × Shows zs note) in
       each_all (λ p. All Good p.notes) closing.told (each_weaken (IsPast n b.0 log) (λ p. All Good p.notes)
-          (λ p h. each_all Good p.notes (each_weaken (IsNote n b.0 log) Good (run_to allows closing log b.0 b.1 is right) p.notes h.1)) closing.told (all_each (IsPast n b.0 log) closing.told (is.told b.0 b.1)))
+      (λ p h. each_all Good p.notes (each_weaken (IsNote n b.0 log) Good (run_to allows closing log b.0 b.1 is right) p.notes h.1)) closing.told (all_each (IsPast n b.0 log) closing.told (is.told b.0 b.1)))

@@ -130,7 +130,7 @@ module _ {Z : Type 0} where
   once_without c (s ∷ ss) e = let h = and_true (not (has s.cell (map stand_cell ss))) (are_once (map stand_cell ss)) e in
       dite (ℕ_discrete s.cell c) (λ same. rw (eq-eqb s.cell c same) (once_without c ss h.1))
       (λ other. rw (ne_eqb s.cell c other) (both_true (not (has s.cell (map stand_cell (stands_without c ss)))) (are_once (map stand_cell (stands_without c ss)))
-          (ap not (has_without s.cell c ss (not_true (has s.cell (map stand_cell ss)) h.0))) (once_without c ss h.1)))
+      (ap not (has_without s.cell c ss (not_true (has s.cell (map stand_cell ss)) h.0))) (once_without c ss h.1)))
 
   pub below_without : (n c : ℕ) (ss : List (Stand Z)) → are_below n (map stand_cell ss) ≡ true → are_below n (map stand_cell (stands_without c ss)) ≡ true
   below_without n c [] e = refl
@@ -189,10 +189,10 @@ module _ {T Z : Type 0} (state : T → Z) where
       let z = state x.shown.value in
       dite (ℕ_discrete h.cell c)
       (λ same. rw (eq-eqb h.cell c same, eq-eqb s.cell c (both.0 ∙ same))
-          (let bare : is_held c (H ss hs) ≡ false = held_has c ss hs both.1 ∙ subst (λ (j : ℕ). has j (map held_cell hs) ≡ false) same (not_true (has h.cell (map held_cell hs)) o.0) in
-          ap (λ (j : ℕ). hold j s.state z ∷ H ss hs) (both.0 ∙ same) ∙ ap (λ zs. hold c s.state z ∷ zs) (sym (show_none c z (H ss hs) bare))))
+      (let bare : is_held c (H ss hs) ≡ false = held_has c ss hs both.1 ∙ subst (λ (j : ℕ). has j (map held_cell hs) ≡ false) same (not_true (has h.cell (map held_cell hs)) o.0) in
+      ap (λ (j : ℕ). hold j s.state z ∷ H ss hs) (both.0 ∙ same) ∙ ap (λ zs. hold c s.state z ∷ zs) (sym (show_none c z (H ss hs) bare))))
       (λ other. rw (ne_eqb h.cell c other, ne_eqb s.cell c (λ q. other (sym both.0 ∙ q)))
-          (ap (λ zs. hold s.cell s.state (state h.shown.value) ∷ zs) (holds_shown c x ss hs is both.1 o.1 (rw (ne_eqb h.cell c other) at there))))
+      (ap (λ zs. hold s.cell s.state (state h.shown.value) ∷ zs) (holds_shown c x ss hs is both.1 o.1 (rw (ne_eqb h.cell c other) at there))))
 
   pub cells_left : (c : ℕ) (ss : List (Stand Z)) (hs : List (Held T)) → map stand_cell ss ≡ map held_cell hs → are_once (map held_cell hs) ≡ true → has c (map held_cell hs) ≡ true
       → map stand_cell (stands_without c ss) ≡ map held_cell (remove hs (place_in c (map held_cell hs)))
@@ -203,9 +203,9 @@ module _ {T Z : Type 0} (state : T → Z) where
       let both = cons_eq s.cell h.cell (map stand_cell ss) (map held_cell hs) e in let o = and_true (not (has h.cell (map held_cell hs))) (are_once (map held_cell hs)) once in
       dite (ℕ_discrete h.cell c)
       (λ same. rw (eq-eqb h.cell c same, eq-eqb s.cell c (both.0 ∙ same))
-          (ap (map stand_cell) (without_none c ss (ap (has c) both.1 ∙ subst (λ (j : ℕ). has j (map held_cell hs) ≡ false) same (not_true (has h.cell (map held_cell hs)) o.0))) ∙ both.1))
+      (ap (map stand_cell) (without_none c ss (ap (has c) both.1 ∙ subst (λ (j : ℕ). has j (map held_cell hs) ≡ false) same (not_true (has h.cell (map held_cell hs)) o.0))) ∙ both.1))
       (λ other. rw (ne_eqb h.cell c other, ne_eqb s.cell c (λ q. other (sym both.0 ∙ q)))
-          (let rest = cells_left c ss hs both.1 o.1 (rw (ne_eqb h.cell c other) at there) in let front = both.0 in cc))
+      (let rest = cells_left c ss hs both.1 o.1 (rw (ne_eqb h.cell c other) at there) in let front = both.0 in cc))
 
   pub holds_left : (c : ℕ) (ss : List (Stand Z)) (hs : List (Held T)) → map stand_cell ss ≡ map held_cell hs → are_once (map held_cell hs) ≡ true → has c (map held_cell hs) ≡ true
       → H (stands_without c ss) (remove hs (place_in c (map held_cell hs))) ≡ without c (H ss hs)
@@ -216,10 +216,10 @@ module _ {T Z : Type 0} (state : T → Z) where
       let both = cons_eq s.cell h.cell (map stand_cell ss) (map held_cell hs) e in let o = and_true (not (has h.cell (map held_cell hs))) (are_once (map held_cell hs)) once in
       dite (ℕ_discrete h.cell c)
       (λ same. rw (eq-eqb h.cell c same, eq-eqb s.cell c (both.0 ∙ same))
-          (let bare : has c (map stand_cell ss) ≡ false = ap (has c) both.1 ∙ subst (λ (j : ℕ). has j (map held_cell hs) ≡ false) same (not_true (has h.cell (map held_cell hs)) o.0) in
-          ap (λ zs. H zs hs) (without_none c ss bare) ∙ sym (without_held c (H ss hs) (held_has c ss hs both.1 ∙ (ap (has c) (sym both.1) ∙ bare)))))
+      (let bare : has c (map stand_cell ss) ≡ false = ap (has c) both.1 ∙ subst (λ (j : ℕ). has j (map held_cell hs) ≡ false) same (not_true (has h.cell (map held_cell hs)) o.0) in
+      ap (λ zs. H zs hs) (without_none c ss bare) ∙ sym (without_held c (H ss hs) (held_has c ss hs both.1 ∙ (ap (has c) (sym both.1) ∙ bare)))))
       (λ other. rw (ne_eqb h.cell c other, ne_eqb s.cell c (λ q. other (sym both.0 ∙ q)))
-          (ap (λ zs. hold s.cell s.state (state h.shown.value) ∷ zs) (holds_left c ss hs both.1 o.1 (rw (ne_eqb h.cell c other) at there))))
+      (ap (λ zs. hold s.cell s.state (state h.shown.value) ∷ zs) (holds_left c ss hs both.1 o.1 (rw (ne_eqb h.cell c other) at there))))
 
   touch_from : (c : ℕ) (ss : List (Stand Z)) (hs : List (Held T)) (P : Stand Z → Type 0) → Each P ss → Each (λ t. P (stand t.cell t.before)) (touch_in c (H ss hs))
   touch_from c [] hs P e = tt

@@ -98,7 +98,8 @@ impl<T: Kept + Drop> Board<T> {
         ensures holder { IfErr result (λ busy. (busy.cell ≡ cell) × (busy.holder < seats_of self.now) × (busy.holder ≢ number_of t.old)) }
     {
         let number = u64::from(t.number) + 1;
-        let found = self.table
+        let found = self
+            .table
             .shared
             .compare_exchange::<Enter>(&mut t.seat, cell as usize + 1, 0, number);
         if found != 0 {
@@ -157,9 +158,7 @@ impl<T: Kept + Drop> Board<T> {
         ensures seen { seen_of t.new ≡ drew (drawn (number_of t.old) result _e (touches_in _cells.now (holds_of t.old))) (seen_of t.old) }
         ensures later { All (λ r. r.stamp < result) (records_of t.old) }
     {
-        self.table
-            .shared
-            .fetch_add::<Draw<J>>(&mut t.seat, 0, 1)
+        self.table.shared.fetch_add::<Draw<J>>(&mut t.seat, 0, 1)
     }
 
     /// How many stamps are drawn so far: above each stamp that this seat drew, and no less than it was answered before.

@@ -13,11 +13,12 @@ mod laws;
 mod plays;
 mod seen;
 mod start;
+#[cfg(test)]
+mod tests;
 mod ticket;
 
 pub use board::Board;
 pub use kept::Kept;
 pub use laws::{Local, one_run, one_run_to_each_note};
-
 pub use seen::{Busy, Drawn, Key, Note, Past, Stand, Touch, View};
 pub use ticket::Ticket;

@@ -69,9 +69,7 @@ pub(crate) fn moved_back<T: Drop>(mut slots: Vec<Option<T>>, cells: &mut Vec<T>)
     ensures { cells.new.items ≡ values_in slots.items }
 {
     while let Some(slot) = slots.pop() {
-        let Some(value) = slot else {
-            unreachable!()
-        };
+        let Some(value) = slot else { unreachable!() };
         cells.push_reserved(value);
     }
     cells.reverse();

@@ -27,3 +27,17 @@ pub struct Ticket<T: Kept> {
     pub ghost bare: { room.items ≡ [] },
     pub ghost spare: { number ≡ 0 → seat.table_id.slots ≤ vec_capacity room },
 }
+
+impl<T: Kept> Ticket<T> {
+    ghost use Rattle.vfm_turn.specs.Words.{number_of};
+
+    /// The number of its seat, counted from 0.
+    pub fn number(&self) -> u32
+        ensures { result ≡ number_of self.now }
+    {
+        self.number
+    }
+}
+
+// A ticket may go to another thread, where the cells' values may.
+unsafe impl<T: Kept + Send> Send for Ticket<T> {}

@@ -42,10 +42,14 @@ loop-number-preserved g c = let i = c.loop-number.invariant in let top = c.args.
       empty = c.new-room.ensures.items;
       room = λ e. absurd (omega arith);
       numbers = ap (map number_of) c.push_reserved.ensures.items ∙ (map_end number_of c.loop-number.tickets.items t ∙ (ap (λ ys. ys ++ t.number ∷ []) i.numbers ∙ (ap (λ (n : ℕ). range_with_len 0 k ++ n ∷ []) (c.ticket.ensures.0 ∙ (let e : k ≡ 0 + k = omega arith in e)) ∙ sym (range_end 0 k))));
-      new = subst (All (λ x. IsSeatOf top x × (seen_of x ≡ nothing_seen))) (sym c.push_reserved.ensures.items) (All-push (λ x. IsSeatOf top x × (seen_of x ≡ nothing_seen)) c.loop-number.tickets.items t i.new
-          ((ap (λ (s : Seat (Option g.row.T.Denot) (View g.row.T-State.Denot)). s.table_id) seat ∙ (c.split_seat-next.ensures.0 ∙ i.table),
-              ap (λ (s : Seat (Option g.row.T.Denot) (View g.row.T-State.Denot)). s.me.0.desc) seat ∙ (ap (λ (v : View g.row.T-State.Denot). v.desc) old_view ∙ ap (λ (v : View g.row.T-State.Denot). v.desc) view),
-              ap (λ (s : Seat (Option g.row.T.Denot) (View g.row.T-State.Denot)). s.me.0.seats) seat ∙ (ap (λ (v : View g.row.T-State.Denot). v.seats) old_view ∙ ap (λ (v : View g.row.T-State.Denot). v.seats) view)), c.ticket.ensures.2));
+      new = subst (All (λ x. IsSeatOf top x × (seen_of x ≡ nothing_seen))) (sym c.push_reserved.ensures.items) (All-push (λ x. IsSeatOf top x × (seen_of x ≡ nothing_seen)) c.loop-number.tickets.items t i.new (
+        (
+          ap (λ (s : Seat (Option g.row.T.Denot) (View g.row.T-State.Denot)). s.table_id) seat ∙ (c.split_seat-next.ensures.0 ∙ i.table),
+          ap (λ (s : Seat (Option g.row.T.Denot) (View g.row.T-State.Denot)). s.me.0.desc) seat ∙ (ap (λ (v : View g.row.T-State.Denot). v.desc) old_view ∙ ap (λ (v : View g.row.T-State.Denot). v.desc) view),
+          ap (λ (s : Seat (Option g.row.T.Denot) (View g.row.T-State.Denot)). s.me.0.seats) seat ∙ (ap (λ (v : View g.row.T-State.Denot). v.seats) old_view ∙ ap (λ (v : View g.row.T-State.Denot). v.seats) view),
+        ),
+        c.ticket.ensures.2,
+      ));
     }
 
 pub ticket-requires-2-clause-order : goal.ticket-requires-2-clause-order
@@ -64,7 +68,11 @@ pub returns-clause-tickets : goal.returns-clause-tickets
 returns-clause-tickets g c = let i = c.loop-number.invariant in let top = c.args.top.now in
     let view = ap (λ (m : Me (Option g.row.T.Denot) (View g.row.T-State.Denot)). m.0) i.fresh in
     let t = c.ticket-2.result in let seat = c.ticket-2.ensures.1 in
-    subst (All (λ x. IsSeatOf top x × (seen_of x ≡ nothing_seen))) (sym c.push_reserved-2.ensures.items) (All-push (λ x. IsSeatOf top x × (seen_of x ≡ nothing_seen)) c.loop-number.tickets.items t i.new
-    ((ap (λ (s : Seat (Option g.row.T.Denot) (View g.row.T-State.Denot)). s.table_id) seat ∙ i.table,
+    subst (All (λ x. IsSeatOf top x × (seen_of x ≡ nothing_seen))) (sym c.push_reserved-2.ensures.items) (All-push (λ x. IsSeatOf top x × (seen_of x ≡ nothing_seen)) c.loop-number.tickets.items t i.new (
+      (
+        ap (λ (s : Seat (Option g.row.T.Denot) (View g.row.T-State.Denot)). s.table_id) seat ∙ i.table,
         ap (λ (s : Seat (Option g.row.T.Denot) (View g.row.T-State.Denot)). s.me.0.desc) seat ∙ ap (λ (v : View g.row.T-State.Denot). v.desc) view,
-        ap (λ (s : Seat (Option g.row.T.Denot) (View g.row.T-State.Denot)). s.me.0.seats) seat ∙ ap (λ (v : View g.row.T-State.Denot). v.seats) view), c.ticket-2.ensures.2))
+        ap (λ (s : Seat (Option g.row.T.Denot) (View g.row.T-State.Denot)). s.me.0.seats) seat ∙ ap (λ (v : View g.row.T-State.Denot). v.seats) view,
+      ),
+      c.ticket-2.ensures.2,
+    ))

@@ -13,9 +13,11 @@ use Rattle.vfm_turn.proofs.board.Board.draw_as.Goals as goal
 
 pub fetch_add-requires : goal.fetch_add-requires
 fetch_add-requires g c = let t = c.args.t.now in let b = c.args.self.now in let state = g.T.Kept.state in
-    let from = subst (λ (ts : List (Touch g.row.T-State.Denot)). IsFrom t.seat.me.0.holds ts) (sym c.requires.said.1) (touches_from state c.args._cells.now t.seat.me.0.holds t.order.items) in
-    (c.requires.ticket.0, (let a : b.table.shared.table_id.words ≡ b.table.shared.table_id.slots + 1 = b.words in omega arith),
-    draws state g.T.Kept.fits b.table.shared.key _ _ t.seat.me g.J.Drawing.entry g.J.Drawing.touches t.live from c.requires.few)
+    let from = subst (λ (ts : List (Touch g.row.T-State.Denot)). IsFrom t.seat.me.0.holds ts) (sym c.requires.said.1) (touches_from state c.args._cells.now t.seat.me.0.holds t.order.items) in (
+      c.requires.ticket.0,
+      (let a : b.table.shared.table_id.words ≡ b.table.shared.table_id.slots + 1 = b.words in omega arith),
+      draws state g.T.Kept.fits b.table.shared.key _ _ t.seat.me g.J.Drawing.entry g.J.Drawing.touches t.live from c.requires.few,
+    )
 
 pub invariant_of-t-clause-in_order : goal.invariant_of-t-clause-in_order
 invariant_of-t-clause-in_order g c = let t = c.args.t.now in

@@ -25,7 +25,7 @@ compare_exchange-found-requires g c =
       c.requires.ticket.0,
       (let a : b.table.shared.table_id.words ≡ slots + 1 = b.words in let d : cell < slots = c.requires.cell in omega arith),
       subst (λ (a : ℕ). Allows (Ruled state fits key) slots t.seat.id me (cell + 1) (λ m. either (eqb m 0) a m) (entering state fits (step slots (cell + 1) 0 a none) me)) (sym number)
-      (enters state fits key slots t.seat.id cell me inside t.live free),
+          (enters state fits key slots t.seat.id cell me inside t.live free),
     )
 
 pub exchange-requires : goal.exchange-requires

@@ -32,8 +32,8 @@ store-requires g c = let t = c.args.t.now in let b = c.args.self.now in let cell
       c.exchange.ensures.0 ∙ (c.turn_by.ensures.same.0 ∙ c.requires.ticket.0),
       (let a : b.table.shared.table_id.words ≡ b.table.shared.table_id.slots + 1 = b.words in omega arith),
       leaves state g.T.Kept.fits b.table.shared.key _ _ cell c.exchange.new.seat.me c.args.value first (ap (λ v. v.live) view ∙ t.live)
-      (ap (λ v. stands_in cell v.holds) view ∙ (sym (held_stands state cell t.seat.me.0.holds t.order.items t.in_order) ∙ c.requires.held))
-      (subst (λ (v : View g.row.T-State.Denot). Each (λ q. q.cell ≡ cell → q.state ≡ state c.args.value) v.holds) (sym view) settled) c.requires.fits,
+          (ap (λ v. stands_in cell v.holds) view ∙ (sym (held_stands state cell t.seat.me.0.holds t.order.items t.in_order) ∙ c.requires.held))
+          (subst (λ (v : View g.row.T-State.Denot). Each (λ q. q.cell ≡ cell → q.state ≡ state c.args.value) v.holds) (sym view) settled) c.requires.fits,
     )
 
 pub turn_by-requires-2 : goal.turn_by-requires-2
