@@ -1,24 +1,22 @@
 -- What the calls of the board cite: facts of a seat and of its ticket, after a step.
-use Rattle.std.proofs.Common.{◌≡◌, ◌≢◌, ℕ, ◌+◌, ◌-◌, ◌<◌, ◌≤◌, Bool, true, false, eqb, List, [], ◌∷◌, ◌++◌, map, length, take, drop, set, length-append, length-drop, suc, zero, ne_eqb, sym, refl, ap, ◌∙◌, subst, eq-eqb, arith, Option, Some, None, MatchBool}
-use mathlib.Core.Option.{none}
+use Rattle.std.proofs.Common.{◌≡◌, ℕ, ◌+◌, ◌-◌, ◌<◌, ◌≤◌, true, List, [], ◌∷◌, ◌++◌, map, length, take, drop, set, length-append, length-drop, suc, ne_eqb, sym, ap, ◌∙◌, subst, eq-eqb, arith, Option, Some, None}
 use mathlib.Core.Logic.{dite}
 use native.Mathlib.Decide.{ℕ_discrete}
 use Rattle.std.proofs.lemmas.Bool.{false≢true}
 use Rattle.std.proofs.lemmas.List.{length-map}
-use mathlib.Core.List.{map-append}
 use Rattle.std.specs.List.{remove}
 use Rattle.std.specs.declared.snapshot.Snapshot.{Snapshot}
-use Rattle.atomic_table.specs.Table.{Me, step, rest, turned}
+use Rattle.atomic_table.specs.Table.{Me, rest, turned}
 use Rattle.vfm_types.specs.declared.desc.Desc.{Desc}
 use Rattle.vfm_types.specs.declared.entry.Entry.{Entry}
 use Rattle.vfm_turn.specs.declared.seen.Stand.{Stand}
 use Rattle.vfm_turn.specs.declared.seen.Touch.{Touch}
 use Rattle.vfm_turn.specs.declared.seen.Held.{Held}
 use Rattle.vfm_turn.specs.declared.seen.View.{View}
-use Rattle.vfm_turn.specs.Seen.{Seen, Hold, hold, stand, drawn, note, entered, shown, drew, noted, left, settle, settled_of}
+use Rattle.vfm_turn.specs.Seen.{Seen, Hold, hold, stand, drawn, note, entered, shown, drew, noted, left}
 use Rattle.vfm_turn.specs.Order.{has, are_once, held_cell, stand_cell, empty_slot}
 use Rattle.vfm_turn.specs.Place.{place_in}
-use Rattle.vfm_turn.specs.Steps.{entering, entering_at, leaving, leaving_at, view_entered, view_met, view_drew, view_noted, view_left}
+use Rattle.vfm_turn.specs.Steps.{entering_at, view_entered, view_drew, view_noted, view_left}
 use Rattle.vfm_turn.specs.Words.{holds_from, seen_from}
 use Rattle.vfm_turn.proofs.Tickets.{turned_back, map_remove, holds_end, holds_settled, holds_after, holds_shown, holds_left}
 

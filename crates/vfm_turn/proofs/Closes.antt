@@ -1,5 +1,5 @@
 -- What is left of a board once every seat is taken in.
-use Rattle.std.proofs.Common.{◌≡◌, ◌≢◌, ℕ, zero, suc, ◌+◌, ◌-◌, ◌<◌, ◌≤◌, Bool, true, false, ◌||◌, eqb, List, [], ◌∷◌, ◌++◌, map, length, take, get_or, set, sym, refl, ap, ◌∙◌, subst, eq-eqb, ne_eqb, arith, append_assoc, Option, Some, None}
+use Rattle.std.proofs.Common.{◌≡◌, ◌≢◌, ℕ, zero, suc, ◌+◌, ◌-◌, ◌<◌, ◌≤◌, true, false, List, [], ◌∷◌, ◌++◌, map, length, take, get_or, sym, refl, ap, ◌∙◌, subst, eq-eqb, ne_eqb, arith, Option, Some, None}
 use mathlib.Core.Logic.{dite}
 use mathlib.Core.Option.{some, some-injective, some-ne-none}
 use native.Mathlib.Decide.{ℕ_discrete}
@@ -18,13 +18,13 @@ use Rattle.vfm_turn.specs.declared.seen.View.{View}
 use Rattle.vfm_turn.specs.declared.seen.Key.{Key}
 use Rattle.vfm_turn.specs.declared.seen.Held.{Held}
 use Rattle.vfm_turn.specs.Log.{Each, state_after, Begins, Stood, earlier, Ran, drawn_by, IsNote, IsPast}
-use Rattle.vfm_turn.specs.Rule.{Ruled, stands_in, IsSpent, IsTakenIn, IsLive}
+use Rattle.vfm_turn.specs.Rule.{Ruled, stands_in, IsSpent, IsTakenIn}
 use Rattle.vfm_turn.specs.Steps.{past_of}
-use Rattle.vfm_turn.specs.Order.{has, held_cell, stand_cell, empty_slot, values_in, AreAllHome}
+use Rattle.vfm_turn.specs.Order.{has, held_cell, stand_cell, values_in, AreAllHome}
 use Rattle.vfm_turn.specs.declared.kept.Kept.{Ghosts}
 use Rattle.vfm_turn.specs.declared.ticket.Ticket.{Ticket}
 use Rattle.vfm_turn.specs.Words.{holds_from, number_of, past_told}
-use Rattle.vfm_turn.specs.History.{Closing, past_number, BeganAt, EndsAt, IsLogOf, IsHistory}
+use Rattle.vfm_turn.specs.History.{past_number, BeganAt, IsHistory}
 use Rattle.vfm_turn.proofs.Lists.{each_weaken, each_all, each_snoc, at_lt, same_at}
 use Rattle.vfm_turn.proofs.Runs.{all_each}
 

@@ -1,5 +1,5 @@
 -- Each step keeps the rule of the board.
-use Rattle.std.proofs.Common.{◌≡◌, ◌≢◌, ℕ, zero, suc, ◌+◌, ◌-◌, ◌*◌, ◌%◌, ◌^◌, ◌<◌, ◌≤◌, ◌⊎◌, inl, inr, ⊎_elim, Bool, true, false, cond, ◌||◌, eqb, List, [], ◌∷◌, ◌++◌, map, length, get_or, set, sym, refl, ap, ◌∙◌, subst, eq-eqb, ne_eqb, arith, Option, Some, None, replicate, length-set, length-append, get_or-set_other, get_or-set_same, MatchBool}
+use Rattle.std.proofs.Common.{◌≡◌, ◌≢◌, ℕ, zero, suc, ◌+◌, ◌-◌, ◌%◌, ◌^◌, ◌<◌, ◌≤◌, ⊎_elim, Bool, true, false, ◌||◌, eqb, List, [], ◌∷◌, ◌++◌, map, length, get_or, set, sym, refl, ap, ◌∙◌, subst, eq-eqb, ne_eqb, arith, Option, Some, replicate, length-set, length-append, get_or-set_other, get_or-set_same, MatchBool}
 use mathlib.Core.Logic.{dite}
 use mathlib.Core.Option.{none, some, some-injective, some-ne-none}
 use native.Mathlib.Decide.{ℕ_discrete}
@@ -10,8 +10,8 @@ use prog.Atomic.{either}
 use Rattle.std.proofs.lemmas.Bool.{false≢true}
 use Rattle.std.specs.List.{All}
 use Rattle.std.specs.declared.snapshot.Snapshot.{Snapshot}
-use Rattle.atomic_table.specs.Table.{State, Me, step, Act, keeps, takes, gives, stepped, homes_after, carried_after, Valid, Allows, Splits, Joins, opening, rest}
-use Rattle.atomic_table.proofs.Lists.{at_set, set_here, set_else, at_longer, at_last, some_there, at_map}
+use Rattle.atomic_table.specs.Table.{State, Me, step, Act, keeps, takes, gives, stepped, carried_after, Valid, Allows, Splits, Joins, opening, rest}
+use Rattle.atomic_table.proofs.Lists.{at_set, set_here, set_else, at_longer, at_map}
 use Rattle.vfm_types.specs.declared.desc.Desc.{Desc}
 use Rattle.vfm_types.specs.declared.entry.Entry.{Entry}
 use Rattle.vfm_turn.specs.declared.seen.Stand.{Stand}
@@ -21,8 +21,8 @@ use Rattle.vfm_turn.specs.declared.seen.Note.{Note}
 use Rattle.vfm_turn.specs.declared.seen.Past.{Past}
 use Rattle.vfm_turn.specs.declared.seen.View.{View}
 use Rattle.vfm_turn.specs.declared.seen.Key.{Key}
-use Rattle.vfm_turn.specs.Seen.{stand, touch, drawn, note, after_in}
-use Rattle.vfm_turn.specs.Log.{Each, state_after, Begins, Ran, drawn_by, earlier, Stood, IsNote, IsPast}
+use Rattle.vfm_turn.specs.Seen.{stand, drawn, note, after_in}
+use Rattle.vfm_turn.specs.Log.{Each, state_after, Ran, drawn_by, Stood, IsNote}
 use Rattle.vfm_turn.specs.Rule.{Ruled, first_view, stands_in, IsSpent, IsTakenIn, IsHeldBy, IsLive}
 use Rattle.vfm_turn.specs.Steps.{stands_without, stands_after, view_entered, view_met, view_drew, view_noted, view_left, has_made, new_view, past_of, taken_in, spent_view, entering, entering_at, drawing, noting, leaving, leaving_at}
 use Rattle.vfm_turn.proofs.Lists.{each_weaken, each_snoc, at_lt, at_end, same_at}

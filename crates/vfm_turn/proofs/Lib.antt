@@ -5,3 +5,4 @@ pub mod Tickets
 pub mod Calls
 pub mod Runs
 pub mod Closes
+pub mod Sends

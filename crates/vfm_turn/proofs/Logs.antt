@@ -1,15 +1,13 @@
 -- The log of drawn entries as it grows.
-use Rattle.std.proofs.Common.{◌≡◌, ◌≢◌, ℕ, zero, suc, ◌+◌, ◌-◌, ◌*◌, ◌<◌, ◌≤◌, Bool, true, false, cond, ◌||◌, eqb, List, [], ◌∷◌, ◌++◌, map, length, drop, sym, refl, ap, ◌∙◌, subst, eq-eqb, ne_eqb, arith}
+use Rattle.std.proofs.Common.{◌≡◌, ◌≢◌, ℕ, zero, suc, ◌+◌, ◌-◌, ◌*◌, ◌<◌, ◌≤◌, List, [], ◌∷◌, length, drop, sym, refl, ap, ◌∙◌, subst, eq-eqb, ne_eqb, arith}
 use mathlib.Core.Logic.{dite}
 use native.Mathlib.Decide.{ℕ_discrete}
 use Rattle.std.specs.List.{All}
-use Rattle.vfm_turn.specs.declared.seen.Stand.{Stand}
 use Rattle.vfm_turn.specs.declared.seen.Touch.{Touch}
 use Rattle.vfm_turn.specs.declared.seen.Drawn.{Drawn}
 use Rattle.vfm_turn.specs.declared.seen.Note.{Note}
-use Rattle.vfm_turn.specs.declared.seen.Past.{Past}
-use Rattle.vfm_turn.specs.Seen.{after_in, stand, touch}
-use Rattle.vfm_turn.specs.Log.{Each, state_after, Begins, Ran, drawn_by, earlier, Stood, IsNote, IsPast}
+use Rattle.vfm_turn.specs.Seen.{after_in}
+use Rattle.vfm_turn.specs.Log.{Each, state_after, Begins, Ran, drawn_by, earlier, Stood, IsNote}
 use Rattle.vfm_turn.proofs.Lists.{each_weaken, each_all}
 
 module _ {Z : Type 0} where

@@ -1,11 +1,10 @@
 -- The log of a closed board is one run.
-use Rattle.std.proofs.Common.{◌≡◌, ◌≢◌, ℕ, zero, suc, ◌+◌, ◌-◌, ◌<◌, ◌≤◌, Bool, true, false, ◌||◌, eqb, List, [], ◌∷◌, ◌++◌, map, length, drop, get_or, set, sym, refl, ap, ◌∙◌, subst, eq-eqb, ne_eqb, arith, Option, Some, None, length-set}
+use Rattle.std.proofs.Common.{◌≡◌, ◌≢◌, ℕ, zero, suc, ◌-◌, ◌<◌, ◌≤◌, true, List, [], ◌∷◌, map, length, drop, get_or, set, sym, refl, ap, ◌∙◌, subst, eq-eqb, ne_eqb, arith, Some, length-set}
 use mathlib.Core.Logic.{dite}
 use native.Mathlib.Decide.{ℕ_discrete}
-use Rattle.std.specs.List.{All, slice_get, slice_index_or}
+use Rattle.std.specs.List.{All, slice_get}
 use Rattle.std.proofs.lemmas.Bool.{false≢true}
 use Rattle.vfm_types.specs.declared.entry.Entry.{Entry}
-use Rattle.vfm_turn.specs.declared.seen.Stand.{Stand}
 use Rattle.vfm_turn.specs.declared.seen.Touch.{Touch}
 use Rattle.vfm_turn.specs.declared.seen.Drawn.{Drawn}
 use Rattle.vfm_turn.specs.declared.seen.Note.{Note}
@@ -13,7 +12,7 @@ use Rattle.vfm_turn.specs.declared.seen.Past.{Past}
 use Rattle.vfm_turn.specs.Seen.{after_in}
 use Rattle.vfm_turn.specs.Log.{Each, state_after, Begins, Ran, drawn_by, earlier, Stood, IsNote, IsPast}
 use Rattle.vfm_turn.specs.Order.{has}
-use Rattle.vfm_turn.specs.History.{Closing, past_number, BeganAt, EndsAt, IsLogOf, IsHistory}
+use Rattle.vfm_turn.specs.History.{Closing, past_number, BeganAt, IsLogOf, IsHistory}
 use Rattle.vfm_turn.specs.Run.{Finds, after_all, IsRun, AreAllowed, Shows, IsOneRun, IsRunToNotes}
 use Rattle.vfm_turn.proofs.Lists.{each_weaken, each_all}
 use Rattle.vfm_turn.proofs.Logs.{drawn_here, drawn_else}

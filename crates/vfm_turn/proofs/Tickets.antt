@@ -1,5 +1,5 @@
 -- What a ticket holds: the seat's settled states beside what the cells were shown as.
-use Rattle.std.proofs.Common.{◌≡◌, ◌≢◌, ℕ, zero, suc, ◌+◌, ◌-◌, ◌<◌, ◌≤◌, Bool, true, false, not, ◌||◌, ◌&&◌, eqb, ltb, List, [], ◌∷◌, ◌++◌, map, length, take, drop, set, sym, refl, ap, ◌∙◌, subst, eq-eqb, ne_eqb, arith, Option, Some, None, length-append}
+use Rattle.std.proofs.Common.{◌≡◌, ◌≢◌, ℕ, zero, suc, ◌<◌, Bool, true, false, not, ◌||◌, ◌&&◌, eqb, ltb, List, [], ◌∷◌, ◌++◌, map, length, take, drop, set, sym, refl, ap, ◌∙◌, subst, eq-eqb, ne_eqb, arith}
 use mathlib.Core.Logic.{dite}
 use native.Mathlib.Decide.{ℕ_discrete}
 use borrow.Author.Tests.{ltb-true, lt-ltb}
@@ -9,11 +9,11 @@ use Rattle.std.proofs.lemmas.Map.Steps.{length-le_from_distinct_below}
 use Rattle.vfm_turn.specs.declared.seen.Stand.{Stand}
 use Rattle.vfm_turn.specs.declared.seen.Touch.{Touch}
 use Rattle.vfm_turn.specs.declared.seen.Held.{Held}
-use Rattle.vfm_turn.specs.Seen.{Hold, hold, stand, touch, is_held, IsSettled, show_in, without, touch_in, touches_in, settle, after_in, settled_of}
+use Rattle.vfm_turn.specs.Seen.{Hold, hold, stand, is_held, IsSettled, show_in, without, touch_in, touches_in, settle, after_in, settled_of}
 use Rattle.vfm_turn.specs.Log.{Each}
 use Rattle.vfm_turn.specs.Rule.{stands_in}
 use Rattle.vfm_turn.specs.Steps.{stands_without, stands_after}
-use Rattle.vfm_turn.specs.Order.{has, are_once, are_below, held_cell, stand_cell, empty_slot}
+use Rattle.vfm_turn.specs.Order.{has, are_once, are_below, held_cell, stand_cell}
 use Rattle.vfm_turn.specs.Place.{place_in}
 use Rattle.vfm_turn.specs.Words.{holds_from}
 

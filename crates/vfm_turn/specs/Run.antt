@@ -1,10 +1,9 @@
 -- One run of the whole board: one list of entries, newest first, each a step on the states of all cells.
-use Rattle.std.specs.Prelude.{◌≡◌, ℕ, ◌≤◌, List, [], ◌∷◌, length, slice_get, slice_set, Some, All}
+use Rattle.std.specs.Prelude.{◌≡◌, ◌≤◌, List, [], ◌∷◌, length, slice_get, slice_set, Some, All}
 use Rattle.vfm_types.specs.declared.entry.Entry.{Entry}
 use Rattle.vfm_turn.specs.declared.seen.Touch.{Touch}
 use Rattle.vfm_turn.specs.declared.seen.Drawn.{Drawn}
 use Rattle.vfm_turn.specs.declared.seen.Note.{Note}
-use Rattle.vfm_turn.specs.declared.seen.Stand.{Stand}
 use Rattle.vfm_turn.specs.Log.{earlier}
 use Rattle.vfm_turn.specs.History.{Closing, IsLogOf}
 

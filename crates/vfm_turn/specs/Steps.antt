@@ -1,18 +1,14 @@
 -- What each step on a word of the board makes of a seat, and what it tells it.
-use Rattle.std.specs.Prelude.{◌≡◌, ◌≢◌, ℕ, ◌+◌, ◌-◌, ◌<◌, ◌≤◌, ◌==◌, Bool, true, false, if◌then◌else◌, List, [], ◌∷◌, ◌++◌, Option, Some, None, MatchBool, All}
+use Rattle.std.specs.Prelude.{◌≡◌, ◌≢◌, ℕ, ◌+◌, ◌-◌, ◌<◌, ◌≤◌, ◌==◌, true, false, if◌then◌else◌, List, [], ◌∷◌, ◌++◌, Option, Some, None, MatchBool, All}
 use Rattle.atomic_table.specs.Table.{Step, Me, rest}
 use Rattle.std.specs.declared.snapshot.Snapshot.{Snapshot}
 use Rattle.vfm_types.specs.declared.desc.Desc.{Desc}
 use Rattle.vfm_types.specs.declared.entry.Entry.{Entry}
-use Rattle.vfm_turn.specs.declared.seen.Busy.{Busy}
 use Rattle.vfm_turn.specs.declared.seen.Stand.{Stand}
 use Rattle.vfm_turn.specs.declared.seen.Touch.{Touch}
-use Rattle.vfm_turn.specs.declared.seen.Drawn.{Drawn}
-use Rattle.vfm_turn.specs.declared.seen.Note.{Note}
 use Rattle.vfm_turn.specs.declared.seen.Past.{Past}
 use Rattle.vfm_turn.specs.declared.seen.View.{View}
 use Rattle.vfm_turn.specs.Seen.{stand, drawn, note, after_in}
-use Rattle.vfm_turn.specs.Log.{Each}
 
 module _ {Z : Type 0} where
   -- the cells that a seat holds, but this one

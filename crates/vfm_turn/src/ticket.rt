@@ -38,6 +38,3 @@ impl<T: Kept> Ticket<T> {
         self.number
     }
 }
-
-// A ticket may go to another thread, where the cells' values may.
-unsafe impl<T: Kept + Send> Send for Ticket<T> {}

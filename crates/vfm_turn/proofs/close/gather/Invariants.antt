@@ -1,4 +1,4 @@
-use Rattle.std.proofs.Common.{◌≡◌, ◌≤◌, ◌++◌, ℕ, true, false, [], ◌∷◌, map, All, vec_capacity}
+use Rattle.std.proofs.Common.{◌≡◌, ◌≤◌, ◌++◌, true, false, [], ◌∷◌, map, All, vec_capacity}
 use Rattle.vfm_turn.specs.Order.{has}
 use Rattle.vfm_turn.specs.Steps.{past_of}
 use Rattle.vfm_turn.specs.Words.{IsSeatOf, number_of, holds_of, past_told}

@@ -1,8 +1,6 @@
-use Rattle.std.proofs.Common.{◌≡◌, ◌≢◌, ◌+◌, ◌<◌, ◌≤◌, ◌++◌, ℕ, true, false, [], ◌∷◌, List, map, take, set, length, Some, None, Option, sym, refl, ap, ◌∙◌, subst, arith, get_or, vec_capacity, get_or-set_other, get_or-set_same}
+use Rattle.std.proofs.Common.{◌≡◌, ◌<◌, ◌++◌, ℕ, false, [], ◌∷◌, take, set, length, Some, sym, ap, ◌∙◌, subst, arith, get_or, get_or-set_other, get_or-set_same}
 use mathlib.Core.Logic.{dite}
-use mathlib.Core.Option.{some}
 use native.Mathlib.Decide.{ℕ_discrete}
-use lib.ListN.{get_elem?}
 use Rattle.std.specs.Slots.{slots_items, slots_len, slots_filled, slots_counts}
 use Rattle.vfm_turn.specs.Order.{values_in}
 use Rattle.vfm_turn.proofs.Closes.{value_at, take_more}

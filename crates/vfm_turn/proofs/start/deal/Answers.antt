@@ -1,4 +1,4 @@
-use Rattle.std.proofs.Common.{◌≡◌, ◌+◌, ◌-◌, ◌<◌, ◌≤◌, ◌++◌, ◌∷◌, [], ℕ, List, map, All, Some, Option, Vec, true, sym, refl, ap, ◌∙◌, subst, arith, vec_len, vec_capacity}
+use Rattle.std.proofs.Common.{◌≡◌, ◌+◌, ◌<◌, ◌≤◌, ◌++◌, ◌∷◌, [], ℕ, map, All, Option, Vec, sym, ap, ◌∙◌, subst, arith, vec_len, vec_capacity}
 use Rattle.std.specs.List.{range_with_len}
 use Rattle.std.specs.Global.{Global}
 use Rattle.std.proofs.lemmas.List.Elements.{All-push}
@@ -6,8 +6,6 @@ use Rattle.atomic_table.specs.Table.{Me}
 use Rattle.atomic_table.specs.declared.shared.Seat.{Seat}
 use Rattle.vfm_turn.specs.declared.seen.Held.{Held}
 use Rattle.vfm_turn.specs.declared.seen.View.{View}
-use Rattle.vfm_turn.specs.declared.ticket.Ticket.{Ticket}
-use Rattle.vfm_turn.specs.Rule.{fresh_view}
 use Rattle.vfm_turn.specs.Seen.{nothing_seen}
 use Rattle.vfm_turn.specs.Steps.{new_view}
 use Rattle.vfm_turn.specs.Words.{IsSeatOf, number_of, seen_of}

@@ -1,4 +1,4 @@
-use Rattle.std.proofs.Common.{◌≡◌, ◌+◌, ◌<◌, ◌≤◌, ℕ, map, [], All, vec_len, vec_capacity}
+use Rattle.std.proofs.Common.{◌≡◌, ◌+◌, ◌≤◌, map, [], All, vec_len, vec_capacity}
 use Rattle.std.specs.List.{range_with_len}
 use Rattle.vfm_turn.specs.Order.{AreRooms}
 use Rattle.vfm_turn.specs.Rule.{fresh_view}

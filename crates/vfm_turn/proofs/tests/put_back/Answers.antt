@@ -1,4 +1,4 @@
-use Rattle.std.proofs.Common.{◌≡◌, ℕ, [], map, ap, ◌∙◌}
+use Rattle.std.proofs.Common.{map, ap, ◌∙◌}
 use Rattle.vfm_turn.specs.Words.{number_of}
 use Rattle.vfm_turn.proofs.Tickets.{map_end}
 use Rattle.vfm_turn.proofs.tests.put_back.Goals as goal

@@ -1,5 +1,4 @@
-use Rattle.std.proofs.Common.{◌≡◌, ℕ, [], map, length, ap, ◌∙◌}
-use Rattle.vfm_turn.specs.declared.ticket.Ticket.{Ticket}
+use Rattle.std.proofs.Common.{◌≡◌, [], map, length, ap, ◌∙◌}
 use Rattle.vfm_turn.specs.Words.{IsTicketOf, number_of, holds_of, records_of}
 use Rattle.vfm_turn.proofs.Tickets.{map_end}
 use Rattle.vfm_turn.proofs.Closes.{all_parts}

@@ -1,9 +1,9 @@
-use Rattle.std.proofs.Common.{◌≡◌, ℕ, ◌<◌, true, List, map, length, Some, sym, refl, ap, ◌∙◌, subst, arith}
+use Rattle.std.proofs.Common.{◌≡◌, ℕ, ◌<◌, true, List, map, length, Some, sym, ap, ◌∙◌, subst}
 use Rattle.std.proofs.lemmas.List.{length-map}
 use Rattle.std.specs.Slots.{slots_items}
 use Rattle.vfm_turn.specs.declared.seen.Past.{Past}
 use Rattle.vfm_turn.specs.Order.{has, values_in}
-use Rattle.vfm_turn.specs.Words.{number_of, past_told}
+use Rattle.vfm_turn.specs.Words.{past_told}
 use Rattle.vfm_turn.specs.History.{past_number}
 use Rattle.vfm_turn.proofs.Closes.{numbers_told, comes_home, home_of, value_is, history, told}
 use Rattle.vfm_turn.proofs.board.Board.close.Goals as goal

@@ -1,4 +1,3 @@
-use Rattle.std.proofs.Common.{List}
 use Rattle.vfm_turn.specs.Seen.{touches_in}
 use Rattle.vfm_turn.specs.Words.{holds_from}
 use Rattle.vfm_turn.proofs.board.Board.draw.Given as goal

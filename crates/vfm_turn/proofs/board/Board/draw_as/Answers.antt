@@ -1,11 +1,10 @@
-use Rattle.std.proofs.Common.{◌≡◌, ℕ, ◌+◌, List, map, sym, refl, ap, ◌∙◌, subst, arith}
+use Rattle.std.proofs.Common.{◌≡◌, ◌+◌, List, map, sym, ap, ◌∙◌, subst, arith}
 use Rattle.vfm_types.specs.declared.entry.Entry.{Entry}
-use Rattle.vfm_turn.specs.declared.seen.Stand.{Stand}
 use Rattle.vfm_turn.specs.declared.seen.Touch.{Touch}
-use Rattle.vfm_turn.specs.Seen.{touches_in, drew, drawn}
+use Rattle.vfm_turn.specs.Seen.{touches_in}
 use Rattle.vfm_turn.specs.Order.{stand_cell, held_cell, are_below}
 use Rattle.vfm_turn.specs.Steps.{view_drew}
-use Rattle.vfm_turn.specs.Words.{holds_from, seen_from}
+use Rattle.vfm_turn.specs.Words.{holds_from}
 use Rattle.vfm_turn.proofs.Keeps.{draws, IsFrom}
 use Rattle.vfm_turn.proofs.Tickets.{touches_from, after_cells}
 use Rattle.vfm_turn.proofs.Calls.{seen_drew}

@@ -1,12 +1,9 @@
-use Rattle.std.proofs.Common.{rules, ◌≡◌, ◌≤◌, ◌+◌, ◌<◌, ℕ, eqb, length, map, List, [], ◌∷◌, ◌++◌, sym, refl, ap, ◌∙◌, subst, arith, Some, None, false, true, Option, vec_capacity, vec_len}
+use Rattle.std.proofs.Common.{◌≡◌, ◌≤◌, ◌+◌, ◌<◌, ℕ, eqb, length, map, List, [], ◌∷◌, ◌++◌, sym, ap, ◌∙◌, subst, arith, Some, None, false, Option, vec_capacity, vec_len}
 use Rattle.std.proofs.lemmas.List.{length-map}
 use mathlib.Core.Option.{none}
-use mathlib.Core.List.{map-append}
 use prog.Atomic.{either}
-use Rattle.atomic_table.specs.Table.{step, Allows, rest}
-use Rattle.vfm_turn.specs.declared.seen.Stand.{Stand}
-use Rattle.vfm_turn.specs.declared.seen.Held.{Held}
-use Rattle.vfm_turn.specs.Seen.{hold, stand}
+use Rattle.atomic_table.specs.Table.{step, Allows}
+use Rattle.vfm_turn.specs.Seen.{stand}
 use Rattle.vfm_turn.specs.Order.{has, are_once, are_below, held_cell, stand_cell, empty_slot}
 use Rattle.vfm_turn.specs.Rule.{Ruled, stands_in}
 use Rattle.vfm_turn.specs.Steps.{entering, view_entered}

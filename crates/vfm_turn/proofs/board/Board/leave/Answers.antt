@@ -1,13 +1,9 @@
-use Rattle.std.proofs.Common.{◌≡◌, ℕ, ◌+◌, ◌-◌, ◌<◌, List, ◌∷◌, map, length, set, true, sym, refl, ap, ◌∙◌, subst, arith, Option, Some, None, vec_len}
+use Rattle.std.proofs.Common.{◌≡◌, ℕ, ◌+◌, ◌-◌, ◌<◌, map, sym, ap, ◌∙◌, subst, arith, Some, None}
 use Rattle.std.specs.List.{remove}
-use Rattle.atomic_table.specs.Table.{rest, Me}
-use Rattle.vfm_turn.specs.declared.seen.Stand.{Stand}
 use Rattle.vfm_turn.specs.declared.seen.View.{View}
 use Rattle.vfm_turn.specs.Log.{Each}
 use Rattle.vfm_turn.specs.Rule.{stands_in}
-use Rattle.vfm_turn.specs.Steps.{stands_without, view_left}
-use Rattle.vfm_turn.specs.Order.{has, are_once, are_below, held_cell, stand_cell, empty_slot}
-use Rattle.vfm_turn.specs.Place.{place_in}
+use Rattle.vfm_turn.specs.Order.{are_once, are_below, held_cell, stand_cell, empty_slot}
 use Rattle.vfm_turn.proofs.Keeps.{leaves}
 use Rattle.vfm_turn.proofs.Tickets.{below_has, held_has, held_stands, settled_each, cells_left, once_without, below_without}
 use Rattle.vfm_turn.proofs.Calls.{first_slot, seen_left, brought, gave_home, others_left, back_in_order, left_view}

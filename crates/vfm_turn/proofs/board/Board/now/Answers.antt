@@ -1,4 +1,4 @@
-use Rattle.std.proofs.Common.{◌≡◌, ℕ, ◌+◌, arith}
+use Rattle.std.proofs.Common.{◌≡◌, ◌+◌, arith}
 use Rattle.vfm_turn.proofs.Keeps.{notes}
 use Rattle.vfm_turn.proofs.Calls.{seen_noted}
 use Rattle.vfm_turn.proofs.board.Board.now.Goals as goal

@@ -1,6 +1,6 @@
-use Rattle.std.proofs.Common.{◌≡◌, ℕ, ◌+◌, ◌<◌, List, map, set, true, sym, refl, ap, ◌∙◌, subst, arith, None}
+use Rattle.std.proofs.Common.{ℕ, map, set, sym, refl, ap, ◌∙◌, None}
 use Rattle.vfm_turn.specs.declared.seen.Held.{Held}
-use Rattle.vfm_turn.specs.Order.{has, are_once, are_below, held_cell, stand_cell, empty_slot}
+use Rattle.vfm_turn.specs.Order.{are_once, are_below, held_cell, empty_slot}
 use Rattle.vfm_turn.proofs.Tickets.{held_has}
 use Rattle.vfm_turn.proofs.Calls.{seen_shown, same_set}
 use Rattle.vfm_turn.proofs.board.Board.show.Goals as goal

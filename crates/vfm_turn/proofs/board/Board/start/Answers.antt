@@ -1,11 +1,11 @@
-use Rattle.std.proofs.Common.{◌≡◌, ◌+◌, ◌<◌, ◌≤◌, ℕ, List, [], ◌∷◌, map, length, replicate, true, Some, Option, Vec, sym, refl, ap, ◌∙◌, subst, arith, vec_len}
+use Rattle.std.proofs.Common.{◌≡◌, ◌+◌, ℕ, List, map, length, replicate, Some, Vec, sym, ap, ◌∙◌, subst, arith}
 use lib.ListN.{get_elem?}
 use Rattle.std.specs.Global.{Global}
 use Rattle.std.specs.List.{range_with_len}
 use Rattle.std.proofs.lemmas.List.{length-map}
 use Rattle.vfm_types.specs.declared.desc.Desc.{Desc}
 use Rattle.vfm_turn.specs.declared.seen.Key.{Key}
-use Rattle.vfm_turn.specs.Order.{has, values_in, AreAllHome, AreRooms}
+use Rattle.vfm_turn.specs.Order.{has, values_in, AreRooms}
 use Rattle.vfm_turn.proofs.Keeps.{opens}
 use Rattle.vfm_turn.proofs.Closes.{elem_get, has_range, values_some, home_some}
 use Rattle.vfm_turn.proofs.board.Board.start.Goals as goal
