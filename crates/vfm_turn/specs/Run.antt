@@ -5,7 +5,7 @@ use Rattle.vfm_turn.specs.declared.seen.Touch.{Touch}
 use Rattle.vfm_turn.specs.declared.seen.Drawn.{Drawn}
 use Rattle.vfm_turn.specs.declared.seen.Note.{Note}
 use Rattle.vfm_turn.specs.Log.{earlier}
-use Rattle.vfm_turn.specs.History.{Closing, IsLogOf}
+use Rattle.vfm_turn.specs.History.{Closing, IsHistory, IsLogOf}
 
 module _ {Z : Type 0} where
   -- the cells stand in the states before
@@ -38,3 +38,11 @@ module _ {Z : Type 0} where
   -- so is what was drawn up to each note, and it leads to the noted states
   abbrev pub IsRunToNotes : (Entry → List (Touch Z) → Type 0) → Closing Z → List (Drawn Z) → Type 0
   IsRunToNotes allows closing log = All (λ p. All (λ note. (note.answer ≤ length log) × ((zs : List Z) × IsRun allows closing.started (earlier note.answer log) zs × Shows zs note)) p.notes) closing.told
+
+  -- of each closed board whose records are allowed, the history is one run
+  abbrev pub HistoriesRun : (Entry → List (Touch Z) → Type 0) → Type 0
+  HistoriesRun allows = (closing : Closing Z) → IsHistory closing → AreAllowed allows closing → IsOneRun allows closing
+
+  -- and so is what was drawn up to each note
+  abbrev pub NotesRun : (Entry → List (Touch Z) → Type 0) → Type 0
+  NotesRun allows = (closing : Closing Z) (log : List (Drawn Z)) → IsLogOf closing log → AreAllowed allows closing → IsRunToNotes allows closing log

@@ -13,7 +13,9 @@ use Rattle.vfm_turn.specs.declared.seen.Key.{Key}
 use Rattle.atomic_table.specs.declared.shared.Shared.{Shared}
 use Rattle.vfm_turn.specs.declared.ticket.Ticket.{Ticket}
 use Rattle.vfm_turn.specs.declared.board.Board.{Board}
-use Rattle.vfm_turn.specs.Seen.{Hold, Seen, hold}
+use Rattle.vfm_types.specs.declared.entry.Entry.{Entry}
+use Rattle.vfm_turn.specs.Seen.{Hold, Seen, hold, drawn, touches_in}
+use Rattle.vfm_turn.specs.History.{Closing}
 use Rattle.vfm_turn.specs.Steps.{past_of}
 
 -- the held cells, from their settled states and from what they were shown as
@@ -55,6 +57,10 @@ module _ {T Z : Type 0} {g : Ghosts T Z} where
   abbrev pub meetings_of : Ticket T Z g → List Busy
   meetings_of t = t.seat.me.0.meetings
 
+  -- the record of an entry that it draws at a stamp, for these of the cells that it holds
+  abbrev pub drawn_of : Ticket T Z g → ℕ → Entry → List ℕ → Drawn Z
+  drawn_of t stamp entry cells = drawn t.number stamp entry (touches_in cells (holds_of t))
+
 module _ {T Z : Type 0} where
   -- how many cells the board has
   abbrev pub cells_of : Board T Z → ℕ
@@ -79,3 +85,7 @@ IsSeatOf top t = (t.seat.table_id ≡ top.table_id) × (t.seat.me.0.desc ≡ Som
 -- the ticket is one of the board
 abbrev pub IsTicketOf : {T Z : Type 0} {g : Ghosts T Z} → Board T Z → Ticket T Z g → Type 0
 IsTicketOf b t = IsSeatOf b.table.shared t
+
+-- what a closed board says: its started states, what its tickets drew and noted, and the states of the values that came back
+abbrev pub closing_of : {T Z : Type 0} {g : Ghosts T Z} → (T → Z) → Board T Z → List (Ticket T Z g) → List T → Closing Z
+closing_of state b tickets values = record { started = started_of state b; told = map past_told tickets; ended = map state values }

@@ -82,8 +82,8 @@ impl<T: Kept + Drop> Board<T> {
 
 impl<T: Kept + Drop> Board<T> {
     ghost use Rattle.std.specs.Prelude.{◌≢◌, ◌^◌, ℕ, true, false, IfOk, IfErr, IsTrue, All};
-    ghost use Rattle.vfm_turn.specs.Seen.{is_held, are_held, are_rising, IsSettled, entered, met, shown, drew, noted, left, drawn, touches_in};
-    ghost use Rattle.vfm_turn.specs.Words.{IsTicketOf, cells_of, seats_of, desc_of, number_of, seen_of, holds_of, records_of, notes_of};
+    ghost use Rattle.vfm_turn.specs.Seen.{is_held, are_held, are_rising, IsSettled, entered, met, shown, drew, noted, left, touches_in};
+    ghost use Rattle.vfm_turn.specs.Words.{IsTicketOf, cells_of, seats_of, desc_of, number_of, seen_of, holds_of, records_of, notes_of, drawn_of};
 
     /// Enters a cell and is lent its value, whose state is then the cell's settled and shown one; or finds another seat
     /// in the cell, whose number the answer carries. The ticket keeps the list of such meetings.
@@ -95,7 +95,9 @@ impl<T: Kept + Drop> Board<T> {
         ensures fits { IfOk result (λ value. T.fits (desc_of self.now) cell value) }
         ensures ok { IfOk result (λ value. seen_of t.new ≡ entered cell (T.state value) (seen_of t.old)) }
         ensures busy { IfErr result (λ busy. seen_of t.new ≡ met busy (seen_of t.old)) }
-        ensures holder { IfErr result (λ busy. (busy.cell ≡ cell) × (busy.holder < seats_of self.now) × (busy.holder ≢ number_of t.old)) }
+        ensures cell { IfErr result (λ busy. busy.cell ≡ cell) }
+        ensures holder { IfErr result (λ busy. busy.holder < seats_of self.now) }
+        ensures other { IfErr result (λ busy. busy.holder ≢ number_of t.old) }
     {
         let number = u64::from(t.number) + 1;
         let found = self
@@ -143,7 +145,7 @@ impl<T: Kept + Drop> Board<T> {
         requires held { are_held cells.now (holds_of t.old) ≡ true }
         requires few { length (records_of t.old) < 2 ^ 32 }
         ensures ticket { IsTicketOf self.now t.new × (number_of t.new ≡ number_of t.old) }
-        ensures seen { seen_of t.new ≡ drew (drawn (number_of t.old) result e (touches_in cells.now (holds_of t.old))) (seen_of t.old) }
+        ensures seen { seen_of t.new ≡ drew (drawn_of t.old result e cells.now) (seen_of t.old) }
         ensures later { All (λ r. r.stamp < result) (records_of t.old) }
     {
         self.draw_as::<Brand>(t, e, cells)
@@ -155,7 +157,7 @@ impl<T: Kept + Drop> Board<T> {
         requires few { length (records_of t.old) < 2 ^ 32 }
         requires said { (J.entry ≡ _e) × (J.touches ≡ touches_in _cells.now (holds_of t.old)) }
         ensures ticket { IsTicketOf self.now t.new × (number_of t.new ≡ number_of t.old) }
-        ensures seen { seen_of t.new ≡ drew (drawn (number_of t.old) result _e (touches_in _cells.now (holds_of t.old))) (seen_of t.old) }
+        ensures seen { seen_of t.new ≡ drew (drawn_of t.old result _e _cells.now) (seen_of t.old) }
         ensures later { All (λ r. r.stamp < result) (records_of t.old) }
     {
         self.table.shared.fetch_add::<Draw<J>>(&mut t.seat, 0, 1)
@@ -167,7 +169,8 @@ impl<T: Kept + Drop> Board<T> {
         requires ticket { IsTicketOf self.now t.old }
         ensures ticket { IsTicketOf self.now t.new × (number_of t.new ≡ number_of t.old) }
         ensures seen { seen_of t.new ≡ noted result (seen_of t.old) }
-        ensures later { All (λ r. r.stamp < result) (records_of t.old) × All (λ n. n.answer ≤ result) (notes_of t.old) }
+        ensures later { All (λ r. r.stamp < result) (records_of t.old) }
+        ensures no_less { All (λ n. n.answer ≤ result) (notes_of t.old) }
     {
         self.table.shared.load::<Now>(&mut t.seat, 0)
     }
@@ -198,7 +201,7 @@ impl<T: Kept + Drop> Board<T> {
     ghost use Rattle.std.specs.Prelude.{◌≢◌, ◌^◌, ℕ, true, false, IfOk, IfErr, IsTrue, All};
     ghost use Rattle.std.specs.Prelude.{[], map, slice_get, Some};
     ghost use Rattle.vfm_turn.specs.Order.{has};
-    ghost use Rattle.vfm_turn.specs.Words.{IsTicketOf, cells_of, seats_of, desc_of, started_of, number_of, holds_of, past_told};
+    ghost use Rattle.vfm_turn.specs.Words.{IsTicketOf, cells_of, seats_of, desc_of, started_of, number_of, holds_of, closing_of};
     ghost use Rattle.vfm_turn.specs.History.{IsHistory};
 
     /// Closes the board with all its tickets, none of which holds a cell, and gives the values back in the order of
@@ -208,7 +211,7 @@ impl<T: Kept + Drop> Board<T> {
         requires all { (k : ℕ) → k < seats_of self → has k (map number_of tickets.items) ≡ true }
         ensures count { length result.items ≡ cells_of self }
         ensures fits { (c : ℕ) (x : T) → slice_get result.items c ≡ Some x → T.fits (desc_of self) c x }
-        ensures history { IsHistory (record { started = started_of T.state self; told = map past_told tickets.items; ended = map T.state result.items }) }
+        ensures history { IsHistory (closing_of T.state self tickets.items result.items) }
     {
         let Board { table } = self;
         let (seat, room) = gather(&table.shared, tickets);

@@ -3,9 +3,7 @@
 ghost use Rattle.std.specs.Prelude.{List};
 ghost use Rattle.vfm_types.specs.declared.entry.Entry.{Entry};
 ghost use Rattle.vfm_turn.specs.declared.seen.Touch.{Touch};
-ghost use Rattle.vfm_turn.specs.History.{Closing, IsHistory, IsLogOf};
-ghost use Rattle.vfm_turn.specs.Run.{AreAllowed, IsRun, IsOneRun, IsRunToNotes};
-ghost use Rattle.vfm_turn.specs.declared.seen.Drawn.{Drawn};
+ghost use Rattle.vfm_turn.specs.Run.{HistoriesRun, NotesRun};
 
 /// Which entry may make which step on the cells that it touches.
 pub trait Local<Z> {
@@ -16,10 +14,10 @@ pub trait Local<Z> {
 /// Where each record of each ticket is allowed on the cells that it touches, all records in the order of their stamps
 /// are one run of the whole board, from the states that it was started with to those that came back.
 pub fn one_run<Z, L: Local<Z>>()
-    ensures { (closing : Closing Z) → IsHistory closing → AreAllowed L.allows closing → IsOneRun L.allows closing }
+    ensures { HistoriesRun L.allows }
 {}
 
 /// And so are the records below each noted answer: they lead to the states that the note has.
 pub fn one_run_to_each_note<Z, L: Local<Z>>()
-    ensures { (closing : Closing Z) (log : List (Drawn Z)) → IsLogOf closing log → AreAllowed L.allows closing → IsRunToNotes L.allows closing log }
+    ensures { NotesRun L.allows }
 {}

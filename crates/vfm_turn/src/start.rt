@@ -84,8 +84,10 @@ pub(crate) fn deal<T: Kept + Drop>(
     rooms: (Vec<Vec<Held<T>>>, Vec<Ticket<T>>),
 ) -> Vec<Ticket<T>>
     requires words { 0 < top.now.table_id.words }
-    requires seat { (seat.table_id ≡ top.now.table_id) × (seat.me ≡ (fresh_view 0 top.now.key.seats top.now.key.desc, [])) }
-    requires seats { (0 < top.now.key.seats) × (top.now.key.seats ≤ 64) × (vec_len rooms.0 ≡ top.now.key.seats) × (top.now.key.seats ≤ vec_capacity rooms.1) }
+    requires table { seat.table_id ≡ top.now.table_id }
+    requires seat { seat.me ≡ (fresh_view 0 top.now.key.seats top.now.key.desc, []) }
+    requires seats { (0 < top.now.key.seats) × (top.now.key.seats ≤ 64) × (vec_len rooms.0 ≡ top.now.key.seats) }
+    requires reach { top.now.key.seats ≤ vec_capacity rooms.1 }
     requires room { (room.items ≡ []) × (top.now.table_id.slots ≤ vec_capacity room) }
     requires rooms { AreRooms top.now.table_id.slots rooms.0.items × (rooms.1.items ≡ []) }
     ensures numbers { map number_of result.items ≡ range_with_len 0 top.now.key.seats }
