@@ -1,0 +1,9 @@
+pub mod Seen
+pub mod Log
+pub mod Rule
+pub mod Steps
+pub mod Order
+pub mod Place
+pub mod Words
+pub mod History
+pub mod Run
