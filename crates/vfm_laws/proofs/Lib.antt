@@ -24,3 +24,4 @@ pub mod StateLaws
 pub mod RunsValid
 pub mod Counts
 pub mod FewArcs
+pub mod FactsAfter

@@ -2,3 +2,4 @@ pub mod Queues
 pub mod Standing
 pub mod Faults
 pub mod Runs
+pub mod Facts

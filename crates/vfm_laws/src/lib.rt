@@ -5,6 +5,7 @@
 mod bounds;
 mod clean;
 mod ended;
+mod facts;
 mod machine;
 mod prefixes;
 mod queue;
@@ -14,6 +15,7 @@ mod unclean;
 pub use bounds::{arcs_are_few, issues_add_up, passes_are_few};
 pub use clean::{delivery_is_clean, legal_is_clean};
 pub use ended::ended_is_done;
+pub use facts::{device_facts_follow, move_facts_follow};
 pub use machine::{delivery_is_enabled, joint_machine_exists, machine_exists};
 pub use prefixes::{
     before_is_legal, broken_is_first, one_more_is_broken, one_more_is_legal, unbroken_is_legal,
