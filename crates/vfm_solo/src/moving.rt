@@ -36,7 +36,7 @@ pub struct Moved {
     /// What the destination did.
     pub destination: Journal,
     /// The state at the end.
-    pub last: Plain,
+    pub final_state: Plain,
 }
 
 /// How many entries the source makes besides those of requests.
@@ -116,11 +116,11 @@ pub fn move_one(alloc: Global, desc: &Desc) -> Result<Moved, NoMemory>
     requires valid { IsValid desc.now }
     requires solo { IsSolo desc.now }
     ensures joint_shape { IfOk result (λ moved. HasShape desc.now moved.joint) }
-    ensures last_shape { IfOk result (λ moved. HasShape desc.now moved.last) }
+    ensures final_shape { IfOk result (λ moved. HasShape desc.now moved.final_state) }
     ensures legal { IfOk result (λ moved. IsLegal desc.now (reverse (moved.source.entries ++ moved.destination.entries))) }
     ensures clean { IfOk result (λ moved. IsClean desc.now (reverse (moved.source.entries ++ moved.destination.entries))) }
     ensures joint { IfOk result (λ moved. plain desc.now (delivers (before_joint moved.source.entries)) ≡ Some moved.joint) }
-    ensures last { IfOk result (λ moved. plain desc.now (delivers (moved.source.entries ++ moved.destination.entries)) ≡ Some moved.last) }
+    ensures final_machine { IfOk result (λ moved. plain desc.now (delivers (moved.source.entries ++ moved.destination.entries)) ≡ Some moved.final_state) }
     ensures source_end { IfOk result (λ moved. IsTrue (is_last_ended desc.now (reverse moved.source.entries))) }
     ensures kept { IfOk result (λ moved. IsFalse (is_aborted (reverse moved.source.entries)) × IsFalse (is_failed (reverse moved.source.entries))) }
     ensures destination_begin { IfOk result (λ moved. slice_get moved.destination.entries 0 ≡ Some Resume) }
@@ -136,6 +136,6 @@ pub fn move_one(alloc: Global, desc: &Desc) -> Result<Moved, NoMemory>
         source: source.journal,
         joint: source.plain,
         destination: destination.journal,
-        last: destination.plain,
+        final_state: destination.plain,
     })
 }

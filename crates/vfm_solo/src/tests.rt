@@ -70,7 +70,7 @@ fn one_write_is_moved(rt: HostRuntime) -> Result<(), Fail> {
         source,
         joint,
         destination,
-        last,
+        final_state,
     } = move_one(rt.alloc(), &desc)?;
     let did = [
         Entry::Issue { d: D, n: 0 },
@@ -110,9 +110,9 @@ fn one_write_is_moved(rt: HostRuntime) -> Result<(), Fail> {
     assert!(rt; destination.as_slice() == resumed_running.as_slice());
     let written = [0, 0, 1, 2, 3, 4, 0, 0, 0, 0, 0, 0, 0, 0, 0, 0];
     assert!(rt; joint.page(1) == written.as_slice());
-    assert!(rt; last.page(1) == written.as_slice());
-    assert!(rt; last.counts(D) == (1, 1, 0));
-    assert!(rt; last.same(&joint));
+    assert!(rt; final_state.page(1) == written.as_slice());
+    assert!(rt; final_state.counts(D) == (1, 1, 0));
+    assert!(rt; final_state.same(&joint));
     Ok(())
 }
 
@@ -123,7 +123,7 @@ fn pending_writes_are_moved(rt: HostRuntime) -> Result<(), Fail> {
         source,
         joint,
         destination,
-        last,
+        final_state,
     } = move_one(rt.alloc(), &desc)?;
     let did = [
         Entry::Begin,
@@ -169,7 +169,7 @@ fn pending_writes_are_moved(rt: HostRuntime) -> Result<(), Fail> {
     assert!(rt; destination.as_slice() == resumed_running.as_slice());
     assert!(rt; joint.counts(D) == (3, 1, 0));
     assert!(rt; joint.pending(D) == [(1, 0), (2, 0)].as_slice());
-    assert!(rt; last.counts(D) == (3, 3, 0));
-    assert!(rt; last.pending(D).is_empty());
+    assert!(rt; final_state.counts(D) == (3, 3, 0));
+    assert!(rt; final_state.pending(D).is_empty());
     Ok(())
 }

@@ -29,7 +29,7 @@ made_by move =
       joint = Some move.moved.joint;
       loaded = None;
       destination = Some move.moved.destination.entries;
-      final = Some move.moved.last;
+      final = Some move.moved.final_state;
     }
 
 -- what was made, where a machine was moved
@@ -39,7 +39,7 @@ made_in outcome = option_map made_by outcome.made
 -- the machines of a move have the sizes of its description
 pub record HasSizes (move : Move) : Type 0 where
   pub joint : HasShape move.desc move.moved.joint
-  pub last : HasShape move.desc move.moved.last
+  pub final : HasShape move.desc move.moved.final_state
   pub few : device_count move.desc < 256
 
 -- a call that asks for a move, and whose description was read out without a fault as these bytes

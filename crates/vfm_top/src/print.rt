@@ -104,7 +104,7 @@ pub fn print_outcome<S: Sink>(outcome: Outcome, out: &mut S) -> Status
                 joint: Some(&made.moved.joint),
                 loaded: None,
                 destination: Some(&made.moved.destination),
-                final_state: Some(&made.moved.last),
+                final_state: Some(&made.moved.final_state),
             };
             print_report(status, Some(&parts), out)
         }

@@ -62,8 +62,8 @@ returns-clause-joint c =
     ap (λ (entries : List Entry). plain D (delivers (before_joint entries))) (sym (reverse-reverse c.hand_over.new.self.journal.entries))
     ∙ joint_exists D c.requires.valid past pass.follows.legal pass.follows.joint ∙ ap (λ (m : Machine). Some m) pass.still
 
-pub returns-clause-last : goal.returns-clause-last
-returns-clause-last c =
+pub returns-clause-final_machine : goal.returns-clause-final_machine
+returns-clause-final_machine c =
     let D = c.args.desc.now in
     let all : List Entry = c.hand_over.new.self.journal.entries ++ c.take_over.new.self.journal.entries in
     let end = destination_end c in

@@ -15,6 +15,6 @@ returns-in-Ok-move_one-clause-outcome c = λ call read.
     let made = c.in-Ok-move_one.ensures in
     moved call c.args.bytes.now (record { desc = c.in-Ok.desc; moved = c.in-Ok-move_one.moved }) read c.in-Ok.ensures.value c.in-Ok.ensures.valid
     (record { legal = made.legal; clean = made.clean })
-    (record { joint = made.joint; final = made.last })
+    (record { joint = made.joint; final = made.final_machine })
     (record { copied = made.source_end; not_aborted = made.kept.0; not_failed = made.kept.1; takes_over = made.destination_begin; run_ended = made.ended })
     (joint_of c.in-Ok.desc (reverse c.in-Ok-move_one.moved.source.entries) made.source_end)
