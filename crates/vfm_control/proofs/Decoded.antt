@@ -15,7 +15,7 @@ cond_some : (test : Bool) (o : Option Frame) (f : Frame) → cond test o None �
 cond_some true o f e = (refl, e)
 cond_some false o f e = absurd cc
 
--- the letters, the session and what stands behind them
+-- the letters, the session and what stands after them
 parts_of : (l : List ℕ) → l ≡ take 4 (drop 0 l) ++ take 8 (drop 4 l) ++ drop 12 l
 parts_of l = sym (take-append-drop 12 l) ∙ ap (λ (x : List ℕ). x ++ drop 12 l) (take-add 4 8 l)
 
@@ -42,7 +42,7 @@ session_fits bytes session fits len is = subst (λ (s : ℕ). s < 2 ^ 64) is (wo
 digest_fits : (bytes : List ℕ) → IsBytes bytes → length bytes ≡ 44 → IsDigest (drop 12 bytes)
 digest_fits bytes fits len = record { len = omega (arith, length-drop 12 bytes); bytes = IsBytes-drop 12 bytes fits }
 
--- with nothing behind it, the body of a refusal is its bytes
+-- with nothing after it, the body of a refusal is its bytes
 refusal_body : (bytes : List ℕ) → IsBytes bytes → length bytes ≡ 44 → is_spare_zero bytes ≡ true → drop 12 bytes ≡ refusal_bytes (refusal_at bytes)
 refusal_body bytes fits len zeros_behind =
     let c = (word_32 12 bytes (omega arith) fits).0 in

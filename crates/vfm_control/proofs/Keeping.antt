@@ -29,7 +29,7 @@ SourceKept own (source.GoSent digest) answer go = (digest ≡ own) × (go ≡ So
 SourceKept own source.Resumed answer go = go ≡ None
 SourceKept own source.Stopped answer go = Unit {0}
 
--- a destination has answered what it says, and runs only where it was told Go with its own digest
+-- a destination has answered what it says, and runs only where it got Go with its own digest
 abbrev pub DestKept : List ℕ → DestEnd → Option Answer → Option (List ℕ) → Type 0
 DestKept own dest.Staging answer go = (answer ≡ None) × (go ≡ None)
 DestKept own (dest.Staged digest) answer go = answer ≡ Some (answers.Staged digest)
@@ -97,7 +97,7 @@ keeps_deliver_answer own (source.GoSent digest) t (Some x) g k = k
 keeps_deliver_answer own source.Resumed t (Some x) g k = k
 keeps_deliver_answer own source.Stopped t (Some x) g k = k
 
--- a destination that is told Go with a digest
+-- a destination that gets Go with a digest
 ran : (same : Bool) (own x digest : List ℕ) (a : Option Answer) → same ≡ bytes_eq x digest → x ≡ own → a ≡ Some (answers.Staged digest)
     → DestKept own (cond same (dest.Running digest) (dest.Staged digest)) a (Some x)
 ran true own x digest a e is k = (sym (same_text x digest e) ∙ is, ap (λ (d : List ℕ). Some d) is)

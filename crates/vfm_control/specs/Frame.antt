@@ -18,7 +18,7 @@ session_of (Staged session digest) = session
 session_of (Refused session refusal) = session
 session_of (Go session digest) = session
 
--- the twelve bytes behind a refusal
+-- the twelve bytes after a refusal
 abbrev pub spare : List ℕ
 spare = 0 ∷ 0 ∷ 0 ∷ 0 ∷ 0 ∷ 0 ∷ 0 ∷ 0 ∷ 0 ∷ 0 ∷ 0 ∷ 0 ∷ []
 
@@ -26,7 +26,7 @@ spare = 0 ∷ 0 ∷ 0 ∷ 0 ∷ 0 ∷ 0 ∷ 0 ∷ 0 ∷ 0 ∷ 0 ∷ 0 ∷ 0 ∷ 
 abbrev pub refusal_bytes : Refusal → List ℕ
 refusal_bytes r = to_be_bytes w32 r.code ++ to_be_bytes w64 r.a ++ to_be_bytes w64 r.b ++ spare
 
--- the 32 bytes behind the session
+-- the 32 bytes after the session
 abbrev pub body_bytes : Frame → List ℕ
 body_bytes (Staged session digest) = digest
 body_bytes (Refused session refusal) = refusal_bytes refusal
@@ -62,7 +62,7 @@ pub record IsFrame (f : Frame) : Type 0 where
 abbrev pub refusal_at : List ℕ → Refusal
 refusal_at bytes = record { code = word_at w32 12 bytes; a = word_at w64 16 bytes; b = word_at w64 24 bytes }
 
--- the twelve bytes behind a refusal are zero
+-- the twelve bytes after a refusal are zero
 abbrev pub is_spare_zero : List ℕ → Bool
 is_spare_zero bytes = word_at w64 32 bytes == 0 && word_at w32 40 bytes == 0
 

@@ -32,7 +32,7 @@ pub fn never_both_run()
         → DestRuns own earlier digest → SourceRuns own (later ++ earlier) → ⊥ }
 {}
 
-/// A destination that runs staged that very digest, which is the source's own, and was told Go by the source.
+/// A destination that runs staged that very digest, which is the source's own, and got Go from the source.
 pub fn running_was_confirmed()
     ensures own { (own : List ℕ) (events : List PairEvent) (digest : List ℕ)
         → DestRuns own events digest → digest ≡ own }

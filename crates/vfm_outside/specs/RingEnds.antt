@@ -10,7 +10,7 @@ use Rattle.vfm_outside.specs.Pieces.{pieces_bytes}
 use Rattle.vfm_outside.specs.Rings.{came}
 use Rattle.vfm_outside.specs.Script.{Plan, new_plan}
 
--- what a link over rings tells
+-- what a link over rings reports
 abbrev pub ring_told : RingLink → Told
 ring_told link = record {
   ended = link.ended;

@@ -20,7 +20,7 @@ use rtrb::{Consumer, Producer};
 use std::thread;
 
 /// A link over two rings of pieces of at most 256 bytes, one for each direction. It waits a bounded time for a slot or a
-/// piece, and fails where none comes, and at chosen calls. It tells what it sent and received, and takes no memory.
+/// piece, and fails where none comes, and at chosen calls. It reports what it sent and received, and takes no memory.
 #[derive(Drop)]
 pub struct RingLink {
     out: Producer<Piece>,

@@ -17,7 +17,7 @@ has_failed sender = sender.failed
 abbrev pub left : {L : Type 0} → Sender L → List ℕ
 left sender = drop sender.at sender.outbox.items
 
--- all that was given to the link and to its sender so far, by what the link tells that it sent
+-- all that was given to the link and to its sender so far, by what the link says that it sent
 abbrev pub given : {L : Type 0} → (L → Option (List ℕ)) → Sender L → Option (List ℕ)
 given sent sender = with_appended (sent sender.link) (left sender)
 

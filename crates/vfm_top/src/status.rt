@@ -40,7 +40,7 @@ pub enum Status {
     BadDescription(DescFault),
     /// A source that was to be read failed.
     ReadFault,
-    /// The sink failed; what was written is a front of another status's text.
+    /// The sink failed; what was written is a prefix of another status's text.
     WriteFault,
     /// A link failed before Go was begun; the source went on.
     LinkFault(LinkPlace),

@@ -1,4 +1,4 @@
--- All that stands behind the session.
+-- All that stands after the session.
 use Rattle.std.proofs.Common.{◌∙◌, drop, arith, length-drop}
 use Rattle.std.proofs.lemmas.List.{take_all}
 use Rattle.vfm_control.proofs.codec.digest_at.Goals as goal
