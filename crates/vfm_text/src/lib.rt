@@ -1,4 +1,4 @@
-//! The texts of states, journals and reports, written piece by piece.
+//! The texts of states, journals and the parts of reports, written piece by piece to a sink or into a digest.
 #![tactic(auto)]
 
 mod buffer;
@@ -16,7 +16,7 @@ pub use entry::state_name;
 pub use piece::{put_all, put_hex, put_line};
 pub use report::{ReportParts, put_parts};
 pub use sink_writer::SinkWriter;
-pub use write::{state_digest, write_journal, write_report, write_state};
+pub use write::{state_digest, write_journal, write_state};
 pub use writer::TextWriter;
 
 #[cfg(test)]

@@ -4,7 +4,7 @@ ghost use Rattle.std.specs.Prelude.{◌≡◌, ℕ, ◌<◌, List, [], ◌++◌,
 ghost use Rattle.vfm_types.specs.Desc.{device_count};
 ghost use Rattle.vfm_plain.specs.Shape.{HasShape};
 ghost use Rattle.vfm_plain.specs.Text.{line};
-ghost use Rattle.vfm_plain.specs.Report.{journal_part, state_part, if_there, parts_text, report_text};
+ghost use Rattle.vfm_plain.specs.Report.{journal_part, state_part, if_there, parts_text};
 ghost use Rattle.vfm_text.specs.Writers.{Writes};
 ghost use Rattle.vfm_text.specs.Parts.{made_of, CanPrint};
 
@@ -107,17 +107,4 @@ pub fn put_parts<P: TextWriter>(writer: &mut P, parts: &ReportParts<'_>) -> Resu
     put_journal_if(writer, b"destination", parts.destination)?;
     put_state_if(writer, desc, b"final", parts.final_state)?;
     put_line(writer, b"end", &[])
-}
-
-/// Writes a report: the status line, and then the parts.
-pub fn put_report<P: TextWriter>(
-    writer: &mut P,
-    status: &[u8],
-    parts: &ReportParts<'_>,
-) -> Result<(), Failed>
-    requires { CanPrint parts.now }
-    ensures { Writes P.takes P.stops writer.old writer.new (report_text status.now (Some (made_of parts.now))) result }
-{
-    writer.put(status)?;
-    put_parts(writer, parts)
 }

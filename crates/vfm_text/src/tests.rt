@@ -5,7 +5,9 @@ ghost use Rattle.vfm_types.specs.Desc.{device_count};
 ghost use Rattle.vfm_types.specs.Ranges.{are_bar_sizes};
 ghost use Rattle.vfm_types.specs.Valid.{IsValid};
 
-use crate::{ReportParts, state_digest, write_journal, write_report, write_state};
+use crate::{
+    ReportParts, SinkWriter, TextBuffer, put_parts, state_digest, write_journal, write_state,
+};
 use std::alloc::Global;
 use std::test::Fail;
 use vfm_journal::Journal;
@@ -157,7 +159,7 @@ fn a_report_has_its_parts_in_order(rt: HostRuntime) -> Result<(), Fail> {
     let plain = Plain::of(alloc, &desc)?;
     let journal = small_journal(alloc)?;
     let mut text = Vec::new(alloc);
-    add_lines(&mut text, &["status moved", "journal source"])?;
+    add_lines(&mut text, &["journal source"])?;
     add_lines(&mut text, &JOURNAL)?;
     add_lines(&mut text, &["state joint"])?;
     add_lines(&mut text, &STATE)?;
@@ -179,7 +181,11 @@ fn a_report_has_its_parts_in_order(rt: HostRuntime) -> Result<(), Fail> {
         destination,
         final_state: machine,
     };
-    let answer = write_report(b"status moved\n", &parts, &mut sink);
+    let mut writer = SinkWriter {
+        buffer: TextBuffer::new(),
+        sink: &mut sink,
+    };
+    let answer = put_parts(&mut writer, &parts).and(writer.flush());
     let ReportParts {
         desc: _,
         source: _,

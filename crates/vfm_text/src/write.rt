@@ -5,15 +5,12 @@ ghost use Rattle.vfm_types.specs.Desc.{device_count};
 ghost use Rattle.vfm_plain.specs.Shape.{HasShape};
 ghost use Rattle.vfm_plain.specs.EntryText.{journal_text};
 ghost use Rattle.vfm_plain.specs.StateText.{state_text, state_digest};
-ghost use Rattle.vfm_plain.specs.Report.{report_text};
 ghost use Rattle.vfm_outside.specs.Tells.{sink_tells};
-ghost use Rattle.vfm_text.specs.Parts.{made_of, CanPrint};
 ghost use Rattle.vfm_text.specs.Prints.{Prints};
 
 use crate::buffer::TextBuffer;
 use crate::digest_writer::DigestWriter;
 use crate::entry::put_journal;
-use crate::report::{ReportParts, put_report};
 use crate::sink_writer::SinkWriter;
 use crate::state::put_state;
 use sha2::{Digest, Sha256};
@@ -45,25 +42,6 @@ pub fn write_state<S: Sink>(plain: &Plain, desc: &Desc, out: &mut S) -> Result<(
         sink: out,
     };
     put_state(&mut writer, plain, desc)?;
-    writer.flush()
-}
-
-/// Writes a report: its status line, which ends with a line feed, and then its parts. `Failed` only where the sink
-/// failed; then a prefix of the text is written.
-pub fn write_report<S: Sink>(
-    status: &[u8],
-    parts: &ReportParts<'_>,
-    out: &mut S,
-) -> Result<(), Failed>
-    requires { CanPrint parts.now }
-    ensures { Prints result (report_text status.now (Some (made_of parts.now)))
-        (sink_tells (S.holds out.old) (S.faults out.old)) (sink_tells (S.holds out.new) (S.faults out.new)) }
-{
-    let mut writer = SinkWriter {
-        buffer: TextBuffer::new(),
-        sink: out,
-    };
-    put_report(&mut writer, status, parts)?;
     writer.flush()
 }
 
