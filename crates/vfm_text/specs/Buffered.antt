@@ -1,8 +1,8 @@
 -- What a writer that buffers its text before a sink has done.
-use Rattle.std.specs.Prelude.{◌≡◌, ℕ, ◌≤◌, List, ◌++◌, Option}
+use Rattle.std.specs.Prelude.{◌≡◌, ℕ, ◌≤◌, List, ◌++◌}
 use Rattle.vfm_outside.specs.Counts.{Rose}
 use Rattle.vfm_outside.specs.Told.{told_then}
-use Rattle.vfm_outside.specs.Tells.{SinkTells, sink_tells}
+use Rattle.vfm_outside.specs.Tells.{SinkTells}
 
 -- what such a writer is: the bytes in its buffer, and what its sink reports
 pub record Buffered : Type 0 where
