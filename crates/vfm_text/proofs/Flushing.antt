@@ -1,6 +1,6 @@
 -- What becomes of a buffered text where the buffer is written out.
 use Rattle.std.proofs.Common.{◌≡◌, ℕ, ◌<◌, ◌≤◌, List, [], ◌++◌, length, take, drop, ap, sym, ◌∙◌, append_assoc, append-nil, arith}
-use Rattle.std.specs.Prelude.{Option, Result, MatchResult, OnOk, OnErr, Ok, Err}
+use Rattle.std.specs.Prelude.{Result, MatchResult, OnOk, OnErr, Ok, Err}
 use Rattle.std.proofs.lemmas.List.{take-append-drop}
 use Rattle.vfm_outside.specs.Counts.{Rose, CountsFaults}
 use Rattle.vfm_outside.specs.Told.{with_appended, with_appended-with_appended}

@@ -129,3 +129,31 @@ fn kept(sizes: &[u32]) -> Bars
         len: sizes.len() as u8,
     }
 }
+
+#[cfg(test)]
+mod tests {
+    use super::*;
+    use std::test::Fail;
+
+    #[test]
+    fn sizes_are_kept_in_order(rt: HostRuntime) -> Result<(), Fail> {
+        let bars = Bars::of(&[128, 64, 4096]).ok_or("bars")?;
+        assert_eq!(rt; bars.len(), 3);
+        assert_eq!(rt; bars.bytes(), 4288);
+        assert_eq!(rt; bars.at(1), 64);
+        assert_eq!(rt; bars.before(2), 192);
+        assert_eq!(rt; bars.copy().as_slice(), [128, 64, 4096].as_slice());
+        assert!(rt; bars.is_in_range());
+        Ok(())
+    }
+
+    #[test]
+    fn other_sizes_are_refused(rt: HostRuntime) -> Result<(), Fail> {
+        assert!(rt; Bars::of(&[]).is_none());
+        assert!(rt; Bars::of(&[64, 64, 64, 64, 64, 64, 64]).is_none());
+        assert!(rt; Bars::of(&[u32::MAX, 1]).is_none());
+        assert!(rt; !Bars::of(&[65536, 64]).ok_or("bars")?.is_in_range());
+        assert!(rt; !Bars::of(&[96]).ok_or("bars")?.is_in_range());
+        Ok(())
+    }
+}

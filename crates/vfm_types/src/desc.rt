@@ -351,6 +351,7 @@ mod tests {
         };
         let copy = desc.copy()?;
         assert_eq!(rt; copy.threshold, 6);
+        assert!(rt; copy.is_in_range());
         assert_eq!(rt; copy.devices.len(), 1);
         let shape = copy.devices.at(0);
         assert_eq!(rt; shape.name.bytes(), b"nic_0".as_slice());

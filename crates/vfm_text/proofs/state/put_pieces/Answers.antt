@@ -1,5 +1,5 @@
 -- A piece more, and a piece that stops the writer.
-use Rattle.std.proofs.Common.{ℕ, ◌≡◌, ◌<◌, [], length, add-one, zero-add, refl, sym, ap, arith}
+use Rattle.std.proofs.Common.{◌<◌, [], length, add-one, zero-add, refl, arith}
 use Rattle.std.proofs.lemmas.Result.{err_from_is_err_and}
 use Rattle.std.proofs.lemmas.List.{take_all}
 use Rattle.vfm_plain.specs.StateText.{pieces, numbered_bar_line}

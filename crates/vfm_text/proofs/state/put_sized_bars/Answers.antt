@@ -1,5 +1,5 @@
 -- One BAR, or several.
-use Rattle.std.proofs.Common.{◌≡◌, List, ℕ, ap, sym, ◌∙◌, subst}
+use Rattle.std.proofs.Common.{List, ℕ, ap, sym, subst}
 use Rattle.vfm_plain.specs.StateText.{bar_line}
 use Rattle.vfm_text.specs.Writers.{Writes}
 use Rattle.vfm_text.proofs.Pieces.{one_bar, several_bars}
