@@ -1,13 +1,8 @@
 -- What a writer that buffers its text before a sink has done.
 use Rattle.std.specs.Prelude.{◌≡◌, ℕ, ◌≤◌, List, ◌++◌}
 use Rattle.vfm_outside.specs.Counts.{Rose}
-<<<<<<< HEAD
 use Rattle.vfm_outside.specs.Told.{with_appended}
-use Rattle.vfm_outside.specs.Tells.{SinkTells, sink_tells}
-=======
-use Rattle.vfm_outside.specs.Told.{told_then}
 use Rattle.vfm_outside.specs.Tells.{SinkTells}
->>>>>>> 4462e9f77ec28813f29e4d27ec231f79f54aa1d9
 
 -- what such a writer is: the bytes in its buffer, and what its sink reports
 pub record Buffered : Type 0 where
