@@ -7,7 +7,7 @@ ghost use Rattle.vfm_types.specs.Desc.{device_count};
 use std::alloc::Global;
 use std::test::Fail;
 use vfm_packet::{Cause, Decoded, Expect, Header, Kind, decode};
-use vfm_record::{Rec, put_end, put_record, read, shape_digest};
+use vfm_record::{Rec, put_end, put_record, read, records_are_payloads, shape_digest};
 use vfm_types::{Bars, Bytes64, Desc, DevShape, Flags, Job, Jobs, Name, NoMemory, Queue, Shapes};
 
 const EXPECT: Expect = Expect {
