@@ -161,6 +161,19 @@ static END: [u8; 512] = [
     0, 0, 0, 0, 0, 0, 0, 0, 0, 0, 0, 0, 0, 0, 0, 0, 0, 0, 0, 0, 0, 0, 0, 0, 0, 0, 0, 0, 0,
 ];
 
+// a device, its counts, and its pending requests
+const MIDDLE_DEVICES: [(u8, (u32, u32, u32), &[(u32, u32)]); 3] = [
+    (0, (11, 7, 0), &[(7, 5), (8, 8), (9, 3), (10, 8)]),
+    (1, (9, 4, 0), &[(4, 3), (5, 2), (6, 4), (7, 2), (8, 4)]),
+    (2, (9, 4, 1), &[(4, 3), (5, 0), (6, 1), (7, 5), (8, 2)]),
+];
+
+const END_COUNTS: [(u8, (u32, u32, u32)); 3] = [
+    (0, (20, 20, 2)),
+    (1, (10, 10, 1)),
+    (2, (17, 17, 1)),
+];
+
 // the first bytes of a pattern
 fn pattern(value: u64, len: u8) -> Option<Bytes64> {
     let mut bytes = [0u8; 64];
@@ -276,6 +289,32 @@ fn state_bytes(alloc: Global, desc: &Desc, plain: &Plain) -> Result<Vec<u8>, All
     Ok(bytes)
 }
 
+// The counts of a device (accepted, done, lost) and its pending requests.
+fn assert_device(
+    rt: &impl Abort,
+    desc: &Desc,
+    plain: &Plain,
+    d: u8,
+    counts: (u32, u32, u32),
+    pending: &[(u32, u32)],
+)
+    requires valid { IsValid desc.now }
+    requires sound { IsSound desc.now plain.now }
+{
+    assert!(rt; u32::from(d) < desc.devices.len());
+    assert_eq!(rt; plain.counts(DeviceId(d)), counts);
+    assert_eq!(rt; plain.pending(DeviceId(d)), pending);
+}
+
+// The bytes of a device's BARs.
+fn assert_bar(rt: &impl Abort, desc: &Desc, plain: &Plain, d: u8, bytes: &[u8])
+    requires valid { IsValid desc.now }
+    requires sound { IsSound desc.now plain.now }
+{
+    assert!(rt; u32::from(d) < desc.devices.len());
+    assert_eq!(rt; plain.bar(DeviceId(d)), bytes);
+}
+
 #[test]
 fn forty_seven_requests(rt: HostRuntime) -> Result<(), Fail> {
     let alloc = rt.alloc();
@@ -313,30 +352,16 @@ fn forty_seven_requests(rt: HostRuntime) -> Result<(), Fail> {
     assert!(rt; !plain.same(&other));
     let middle = state_bytes(alloc, &desc, &plain)?;
     assert_eq!(rt; middle.as_slice(), MIDDLE.as_slice());
-    assert_eq!(rt; desc.devices.len(), 3);
-    assert_eq!(rt; plain.counts(DeviceId(0)), (11, 7, 0));
-    assert_eq!(rt; plain.counts(DeviceId(1)), (9, 4, 0));
-    assert_eq!(rt; plain.counts(DeviceId(2)), (9, 4, 1));
-    assert_eq!(rt;
-        plain.pending(DeviceId(0)),
-        [(7, 5), (8, 8), (9, 3), (10, 8)].as_slice()
-    );
-    assert_eq!(rt;
-        plain.pending(DeviceId(1)),
-        [(4, 3), (5, 2), (6, 4), (7, 2), (8, 4)].as_slice()
-    );
-    assert_eq!(rt;
-        plain.pending(DeviceId(2)),
-        [(4, 3), (5, 0), (6, 1), (7, 5), (8, 2)].as_slice()
-    );
+    for (d, counts, pending) in MIDDLE_DEVICES {
+        assert_device(&rt, &desc, &plain, d, counts, pending);
+    }
 
     play(&rt, &desc, &mut plain, &STEPS[23..]);
     let end = state_bytes(alloc, &desc, &plain)?;
     assert_eq!(rt; end.as_slice(), END.as_slice());
-    assert_eq!(rt; plain.counts(DeviceId(0)), (20, 20, 2));
-    assert_eq!(rt; plain.counts(DeviceId(1)), (10, 10, 1));
-    assert_eq!(rt; plain.counts(DeviceId(2)), (17, 17, 1));
-    assert_eq!(rt; plain.pending(DeviceId(2)).len(), 0);
+    for (d, counts) in END_COUNTS {
+        assert_device(&rt, &desc, &plain, d, counts, &[]);
+    }
     Ok(())
 }
 
@@ -370,10 +395,8 @@ fn a_doorbell_is_accepted(rt: HostRuntime) -> Result<(), Fail> {
     )?)?;
     let desc = machine(&rt, devices)?;
     let plain = played(&rt, alloc, &desc, &[(0, 0, true)])?;
-    assert_eq!(rt; desc.devices.len(), 2);
-    assert_eq!(rt; plain.counts(DeviceId(1)), (1, 0, 0));
-    assert_eq!(rt; plain.pending(DeviceId(1)), [(0, 1)].as_slice());
-    assert_eq!(rt; plain.bar(DeviceId(1)), [0u8; 64].as_slice());
+    assert_device(&rt, &desc, &plain, 1, (1, 0, 0), &[(0, 1)]);
+    assert_bar(&rt, &desc, &plain, 1, &[0; 64]);
     Ok(())
 }
 
@@ -394,8 +417,7 @@ fn doorbells_are_lost(rt: HostRuntime) -> Result<(), Fail> {
     let steps = [(0, 2, false), (0, 1, true), (0, 0, true), (0, 2, true)];
     let desc = machine(&rt, devices)?;
     let plain = played(&rt, alloc, &desc, &steps)?;
-    assert_eq!(rt; desc.devices.len(), 2);
-    assert_eq!(rt; plain.counts(DeviceId(1)), (1, 0, 2));
+    assert_device(&rt, &desc, &plain, 1, (1, 0, 2), &[(0, 1)]);
     Ok(())
 }
 
@@ -460,16 +482,14 @@ fn bytes_of_bar_1_are_no_doorbell(rt: HostRuntime) -> Result<(), Fail> {
     devices.push(device(&rt, alloc, b"b", (64, 1, 4), &rows, &[0, 1, 2, 3])?)?;
     let desc = machine(&rt, devices)?;
     let mut plain = played(&rt, alloc, &desc, &[(1, 0, true), (1, 1, true)])?;
-    assert_eq!(rt; desc.devices.len(), 2);
     let mut bytes = two_writes();
-    assert_eq!(rt; plain.bar(DeviceId(0)), bytes.as_slice());
+    assert_bar(&rt, &desc, &plain, 0, &bytes);
     play(&rt, &desc, &mut plain, &[(1, 2, true)]);
     bytes[128] = 0;
-    assert_eq!(rt; plain.bar(DeviceId(0)), bytes.as_slice());
-    assert_eq!(rt; plain.counts(DeviceId(0)), (0, 0, 0));
+    assert_bar(&rt, &desc, &plain, 0, &bytes);
+    assert_device(&rt, &desc, &plain, 0, (0, 0, 0), &[]);
     play(&rt, &desc, &mut plain, &[(1, 3, true)]);
-    assert_eq!(rt; plain.bar(DeviceId(0)), bytes.as_slice());
-    assert_eq!(rt; plain.counts(DeviceId(0)), (1, 0, 0));
-    assert_eq!(rt; plain.pending(DeviceId(0)), [(0, 0)].as_slice());
+    assert_bar(&rt, &desc, &plain, 0, &bytes);
+    assert_device(&rt, &desc, &plain, 0, (1, 0, 0), &[(0, 0)]);
     Ok(())
 }

@@ -128,162 +128,89 @@ fn one_machine_is_moved(rt: HostRuntime) -> Result<(), Fail> {
 #[test]
 fn words_without_a_form_are_refused(rt: HostRuntime) -> Result<(), Fail> {
     let alloc = rt.alloc();
-    let refused = "status bad-words\n";
-    assert!(rt; is_answered(&rt, alloc, &[], ONE, 1, refused)?);
-    assert!(rt; is_answered(&rt, alloc, &["run"], ONE, 1, refused)?);
-    assert!(rt; is_answered(&rt, alloc, &["run", ""], ONE, 1, refused)?);
-    assert!(rt; is_answered(&rt, alloc, &["run", "x", "y"], ONE, 1, refused)?);
-    assert!(rt; is_answered(&rt, alloc, &["load", "007"], ONE, 1, refused)?);
-    assert!(rt;
-        is_answered(
-            &rt,
-            alloc,
-            &["paths", "RUNNING", "STOP", "2"],
-            ONE,
-            1,
-            refused
-        )?
-    );
-    assert!(rt;
-        is_answered(
-            &rt,
-            alloc,
-            &["paths", "RUNNINGS", "STOP", "1"],
-            ONE,
-            1,
-            refused
-        )?
-    );
+    let rows: [&[&str]; 7] = [
+        &[],
+        &["run"],
+        &["run", ""],
+        &["run", "x", "y"],
+        &["load", "007"],
+        &["paths", "RUNNING", "STOP", "2"],
+        &["paths", "RUNNINGS", "STOP", "1"],
+    ];
+    for words in rows {
+        assert!(rt; is_answered(&rt, alloc, words, ONE, 1, "status bad-words\n")?);
+    }
     Ok(())
 }
 
-// Whether this path is asked for and printed so.
-fn is_path<H: Threads + Wait + Sync>(
-    rt: &H,
-    alloc: Global,
-    ends: (&str, &str, &str),
-    status: u8,
-    text: &str,
-) -> Result<bool, Fail> {
-    is_answered(
-        rt,
-        alloc,
-        &["paths", ends.0, ends.1, ends.2],
-        "",
-        status,
-        text,
-    )
-}
+// From, to, flags, the number of the status, and what is printed.
+const PATHS: [(&str, &str, &str, u8, &str); 9] = [
+    (
+        "PRE_COPY",
+        "RUNNING_P2P",
+        "7",
+        0,
+        "path PRE_COPY RUNNING RUNNING_P2P\n",
+    ),
+    ("RUNNING", "STOP", "1", 0, "path RUNNING STOP\n"),
+    (
+        "PRE_COPY",
+        "RESUMING",
+        "7",
+        0,
+        "path PRE_COPY RUNNING RUNNING_P2P STOP RESUMING\n",
+    ),
+    (
+        "RUNNING",
+        "STOP_COPY",
+        "7",
+        0,
+        "path RUNNING RUNNING_P2P STOP STOP_COPY\n",
+    ),
+    (
+        "PRE_COPY",
+        "STOP_COPY",
+        "7",
+        0,
+        "path PRE_COPY PRE_COPY_P2P STOP_COPY\n",
+    ),
+    ("RUNNING", "RUNNING", "1", 0, "path RUNNING\n"),
+    (
+        "STOP_COPY",
+        "PRE_COPY",
+        "7",
+        14,
+        "refused forbidden STOP_COPY PRE_COPY\n",
+    ),
+    (
+        "RUNNING",
+        "PRE_COPY",
+        "3",
+        14,
+        "refused unsupported PRE_COPY\n",
+    ),
+    ("ERROR", "RUNNING", "7", 14, "refused from-error\n"),
+];
 
 #[test]
-fn paths_are_printed(rt: HostRuntime) -> Result<(), Fail> {
+fn paths_are_printed_or_refused(rt: HostRuntime) -> Result<(), Fail> {
     let alloc = rt.alloc();
-    assert!(rt;
-        is_path(
-            &rt,
-            alloc,
-            ("PRE_COPY", "RUNNING_P2P", "7"),
-            0,
-            "path PRE_COPY RUNNING RUNNING_P2P\n"
-        )?
-    );
-    assert!(rt;
-        is_path(
-            &rt,
-            alloc,
-            ("RUNNING", "STOP", "1"),
-            0,
-            "path RUNNING STOP\n"
-        )?
-    );
-    assert!(rt;
-        is_path(
-            &rt,
-            alloc,
-            ("PRE_COPY", "RESUMING", "7"),
-            0,
-            "path PRE_COPY RUNNING RUNNING_P2P STOP RESUMING\n"
-        )?
-    );
-    assert!(rt;
-        is_path(
-            &rt,
-            alloc,
-            ("RUNNING", "STOP_COPY", "7"),
-            0,
-            "path RUNNING RUNNING_P2P STOP STOP_COPY\n"
-        )?
-    );
-    assert!(rt;
-        is_path(
-            &rt,
-            alloc,
-            ("PRE_COPY", "STOP_COPY", "7"),
-            0,
-            "path PRE_COPY PRE_COPY_P2P STOP_COPY\n"
-        )?
-    );
-    assert!(rt; is_path(&rt, alloc, ("RUNNING", "RUNNING", "1"), 0, "path RUNNING\n")?);
-    Ok(())
-}
-
-#[test]
-fn refused_paths_say_why(rt: HostRuntime) -> Result<(), Fail> {
-    let alloc = rt.alloc();
-    assert!(rt;
-        is_path(
-            &rt,
-            alloc,
-            ("STOP_COPY", "PRE_COPY", "7"),
-            14,
-            "refused forbidden STOP_COPY PRE_COPY\n"
-        )?
-    );
-    assert!(rt;
-        is_path(
-            &rt,
-            alloc,
-            ("RUNNING", "PRE_COPY", "3"),
-            14,
-            "refused unsupported PRE_COPY\n"
-        )?
-    );
-    assert!(rt;
-        is_path(
-            &rt,
-            alloc,
-            ("ERROR", "RUNNING", "7"),
-            14,
-            "refused from-error\n"
-        )?
-    );
+    for (from, to, flags, status, text) in PATHS {
+        assert!(rt; is_answered(&rt, alloc, &["paths", from, to, flags], "", status, text)?);
+    }
     Ok(())
 }
 
 #[test]
 fn faulty_descriptions_are_refused(rt: HostRuntime) -> Result<(), Fail> {
     let alloc = rt.alloc();
-    let words = ["run", "one.json"];
-    assert!(rt;
-        is_answered(
-            &rt,
-            alloc,
-            &words,
-            "{",
-            2,
-            "status bad-description not-json\n"
-        )?
-    );
-    assert!(rt;
-        is_answered(
-            &rt,
-            alloc,
-            &words,
-            "{}",
-            2,
-            "status bad-description missing session\n"
-        )?
-    );
+    let rows = [
+        ("{", "status bad-description not-json\n"),
+        ("{}", "status bad-description missing session\n"),
+    ];
+    for (desc, text) in rows {
+        assert!(rt; is_answered(&rt, alloc, &["run", "one.json"], desc, 2, text)?);
+    }
     Ok(())
 }
 
@@ -322,83 +249,104 @@ fn has_line(alloc: Global, status: &Status, line: &str) -> Result<bool, Fail> {
     Ok(out.bytes() == line.as_bytes())
 }
 
+// Whether each of these statuses has its line.
+fn have_lines(alloc: Global, rows: &[(Status, &str)]) -> Result<bool, Fail> {
+    for (status, line) in rows {
+        if !has_line(alloc, status, line)? {
+            return Ok(false);
+        }
+    }
+    Ok(true)
+}
+
 #[test]
 fn statuses_of_links_and_refusals_have_their_lines(rt: HostRuntime) -> Result<(), Fail> {
-    let alloc = rt.alloc();
-    let connect = Status::LinkFault(LinkPlace::Connect);
-    assert!(rt; has_line(alloc, &connect, "status link-fault connect\n")?);
-    let source = Status::LinkFault(LinkPlace::Source(3));
-    assert!(rt; has_line(alloc, &source, "status link-fault source 3\n")?);
-    let destination = Status::LinkFault(LinkPlace::Destination(7));
-    assert!(rt; has_line(alloc, &destination, "status link-fault destination 7\n")?);
-    let control = Status::LinkFault(LinkPlace::Control);
-    assert!(rt; has_line(alloc, &control, "status link-fault control\n")?);
-    let refused = Status::Refused(Refusal {
+    let refusal = Refusal {
         code: 24,
         a: 0,
         b: 4096,
-    });
-    assert!(rt; has_line(alloc, &refused, "status refused 24 0 4096\n")?);
+    };
+    let rows = [
+        (
+            Status::LinkFault(LinkPlace::Connect),
+            "status link-fault connect\n",
+        ),
+        (
+            Status::LinkFault(LinkPlace::Source(3)),
+            "status link-fault source 3\n",
+        ),
+        (
+            Status::LinkFault(LinkPlace::Destination(7)),
+            "status link-fault destination 7\n",
+        ),
+        (
+            Status::LinkFault(LinkPlace::Control),
+            "status link-fault control\n",
+        ),
+        (Status::Refused(refusal), "status refused 24 0 4096\n"),
+    ];
+    assert!(rt; have_lines(rt.alloc(), &rows)?);
     Ok(())
 }
 
 #[test]
 fn statuses_of_the_handshake_have_their_lines(rt: HostRuntime) -> Result<(), Fail> {
-    let alloc = rt.alloc();
+    let nothing = Heard44::of(&[]).ok_or("heard")?;
+    let heard = Heard44::of(&[86, 70, 17]).ok_or("heard")?;
     let unconfirmed = Status::Unconfirmed {
         ours: [171; 32],
         theirs: [1; 32],
     };
-    assert!(rt;
-        has_line(
-            alloc,
-            &unconfirmed,
-            "status unconfirmed abababababababababababababababababababababababababababababababab 0101010101010101010101010101010101010101010101010101010101010101\n"
-        )?
-    );
-    let send = Status::InDoubt(Doubt::Send);
-    assert!(rt; has_line(alloc, &send, "status in-doubt send\n")?);
-    let read = Status::InDoubt(Doubt::Read);
-    assert!(rt; has_line(alloc, &read, "status in-doubt read\n")?);
-    let silent = Status::InDoubt(Doubt::NoGo(Heard44::of(&[]).ok_or("heard")?));
-    assert!(rt; has_line(alloc, &silent, "status in-doubt no-go -\n")?);
-    let other = Status::InDoubt(Doubt::Other {
+    let other = Doubt::Other {
         ours: [0; 32],
         theirs: [255; 32],
-    });
-    assert!(rt;
-        has_line(
-            alloc,
-            &other,
-            "status in-doubt other 0000000000000000000000000000000000000000000000000000000000000000 ffffffffffffffffffffffffffffffffffffffffffffffffffffffffffffffff\n"
-        )?
-    );
-    let heard = Status::NoControl(Heard44::of(&[86, 70, 17]).ok_or("heard")?);
-    assert!(rt; has_line(alloc, &heard, "status no-control 564611\n")?);
+    };
+    let rows = [
+        (
+            unconfirmed,
+            "status unconfirmed abababababababababababababababababababababababababababababababab 0101010101010101010101010101010101010101010101010101010101010101\n",
+        ),
+        (Status::InDoubt(Doubt::Send), "status in-doubt send\n"),
+        (Status::InDoubt(Doubt::Read), "status in-doubt read\n"),
+        (
+            Status::InDoubt(Doubt::NoGo(nothing)),
+            "status in-doubt no-go -\n",
+        ),
+        (
+            Status::InDoubt(other),
+            "status in-doubt other 0000000000000000000000000000000000000000000000000000000000000000 ffffffffffffffffffffffffffffffffffffffffffffffffffffffffffffffff\n",
+        ),
+        (Status::NoControl(heard), "status no-control 564611\n"),
+    ];
+    assert!(rt; have_lines(rt.alloc(), &rows)?);
     Ok(())
 }
 
 #[test]
 fn statuses_of_runs_and_audits_have_their_lines(rt: HostRuntime) -> Result<(), Fail> {
-    let alloc = rt.alloc();
-    assert!(rt; has_line(alloc, &Status::Differs, "status differs\n")?);
-    let aborted = Status::Aborted { pass: 2 };
-    assert!(rt; has_line(alloc, &aborted, "status aborted 2\n")?);
     let failed = Status::ArcFailed {
         d: DeviceId(1),
         to: MigState::StopCopy,
     };
-    assert!(rt; has_line(alloc, &failed, "status arc-failed 1 STOP_COPY\n")?);
     let broken = Status::Broken {
         place: 12,
         rule: Rule::Quiet,
     };
-    assert!(rt; has_line(alloc, &broken, "status broken 12 4\n")?);
-    let line = Status::BadReport { line: 9 };
-    assert!(rt; has_line(alloc, &line, "status bad-report 9\n")?);
-    let joint = Status::StateDiffers(Section::Joint);
-    assert!(rt; has_line(alloc, &joint, "status state-differs joint\n")?);
-    let last = Status::StateDiffers(Section::Last);
-    assert!(rt; has_line(alloc, &last, "status state-differs final\n")?);
+    let rows = [
+        (Status::Differs, "status differs\n"),
+        (Status::Aborted { pass: 2 }, "status aborted 2\n"),
+        (failed, "status arc-failed 1 STOP_COPY\n"),
+        (broken, "status broken 12 4\n"),
+        (Status::BadReport { line: 9 }, "status bad-report 9\n"),
+        (
+            Status::StateDiffers(Section::Joint),
+            "status state-differs joint\n",
+        ),
+        (
+            Status::StateDiffers(Section::Last),
+            "status state-differs final\n",
+        ),
+    ];
+    assert!(rt; have_lines(rt.alloc(), &rows)?);
     Ok(())
 }
