@@ -1,18 +1,10 @@
 -- The descriptions of the built forms: what every description that is read keeps.
-use Rattle.std.specs.Prelude.{◌≡◌, Bool, true, false, IsTrue}
+use Rattle.std.specs.Prelude.{◌≡◌, IsTrue}
 use Rattle.std.specs.List.{list_all}
-use Rattle.vfm_types.specs.declared.job.Job.{Job}
-use Rattle.vfm_types.specs.declared.job.Job.TheVariants.{Write, Read, Store, Add}
+use Rattle.vfm_types.specs.Job.{is_write}
 use Rattle.vfm_types.specs.declared.desc.DevShape.{DevShape}
 use Rattle.vfm_types.specs.declared.desc.Desc.{Desc}
 use Rattle.vfm_types.specs.Desc.{device_count, shape_at}
-
--- the job writes
-abbrev pub is_write : Job → Bool
-is_write (Write at bytes) = true
-is_write (Read at len) = false
-is_write (Store at len) = false
-is_write (Add at value) = false
 
 -- a device of the built form: no states but those that each device has, one request at a time, no arc that fails, and
 -- jobs that write

@@ -4,10 +4,11 @@ ghost use Rattle.std.specs.Prelude.{◌≡◌, ◌<◌, ◌≤◌, ◌^◌, All,
 ghost use Rattle.std.specs.List.{list_all};
 ghost use Rattle.serde_json.specs.View.{view};
 ghost use Rattle.vfm_types.specs.declared.fault.FieldName.TheVariants as field;
+ghost use Rattle.vfm_types.specs.Job.{is_write};
 ghost use Rattle.vfm_types.specs.State.{is_flags};
 ghost use Rattle.vfm_types.specs.Valid.{ShapeInRange, is_job_in_range};
 ghost use Rattle.vfm_desc.specs.Built.{is_kind_built};
-ghost use Rattle.vfm_desc.specs.BuiltForms.{IsShapeBuilt, is_write};
+ghost use Rattle.vfm_desc.specs.BuiltForms.{IsShapeBuilt};
 ghost use Rattle.vfm_desc.specs.Reading.{Gives, each, number_in};
 ghost use Rattle.vfm_desc.specs.Described as spec;
 

@@ -18,6 +18,7 @@ pub mod Rules
 pub mod Legal
 pub mod Clean
 pub mod Ended
+pub mod Looks
 pub mod Shape
 pub mod Text
 pub mod StateText

@@ -1,17 +1,9 @@
 -- Machines with one device that this crate moves.
-use Rattle.std.specs.Prelude.{◌≡◌, Bool, true, false, IsTrue}
+use Rattle.std.specs.Prelude.{◌≡◌, IsTrue}
 use Rattle.std.specs.List.{list_all}
-use Rattle.vfm_types.specs.declared.job.Job.{Job}
-use Rattle.vfm_types.specs.declared.job.Job.TheVariants.{Write, Read, Store, Add}
+use Rattle.vfm_types.specs.Job.{is_write}
 use Rattle.vfm_types.specs.declared.desc.Desc.{Desc}
 use Rattle.vfm_types.specs.Desc.{device_count, shape_at}
-
--- the job is a write
-abbrev pub is_write : Job → Bool
-is_write (Write at bytes) = true
-is_write (Read at len) = false
-is_write (Store at len) = false
-is_write (Add at value) = false
 
 -- One device without the peer-to-peer and pre-copy states, which does one write at a time and fails no arc, and no
 -- copying pass before it stops.

@@ -29,6 +29,13 @@ length_of (Read at len) = len
 length_of (Store at len) = len
 length_of (Add at value) = 8
 
+-- the job is a Write
+abbrev pub is_write : Job → Bool
+is_write (Write at bytes) = true
+is_write (Read at len) = false
+is_write (Store at len) = false
+is_write (Add at value) = false
+
 -- it changes what it touches
 abbrev pub is_writer : Job → Bool
 is_writer (Write at bytes) = true

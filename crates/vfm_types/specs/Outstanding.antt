@@ -58,6 +58,15 @@ is_arrived n (r ∷ requests) = if r.number == n then r.is_delivered else is_arr
 abbrev pub is_outstanding : ℕ → List Outstanding → Bool
 is_outstanding n requests = list_any (λ r. r.number == n) requests
 
+-- how many of these wait for their delivery, and how many have reached their target
+abbrev pub undelivered_count : List Outstanding → ℕ
+undelivered_count [] = 0
+undelivered_count (r ∷ requests) = undelivered_count requests + (if r.is_delivered then 0 else 1)
+
+abbrev pub delivered_count : List Outstanding → ℕ
+delivered_count [] = 0
+delivered_count (r ∷ requests) = delivered_count requests + (if r.is_delivered then 1 else 0)
+
 -- the number of the job of request n among these
 abbrev pub outstanding_job_or_zero : ℕ → List Outstanding → ℕ
 outstanding_job_or_zero n [] = 0

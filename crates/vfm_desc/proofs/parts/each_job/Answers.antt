@@ -2,7 +2,7 @@ use Rattle.std.proofs.lemmas.Result.{err_from_is_err_and}
 use Rattle.std.proofs.Common.{arith}
 use Rattle.serde_json.specs.View.{view}
 use Rattle.vfm_types.specs.Valid.{is_job_in_range}
-use Rattle.vfm_desc.specs.BuiltForms.{is_write}
+use Rattle.vfm_types.specs.Job.{is_write}
 use Rattle.vfm_desc.specs.Described.{job_in}
 use Rattle.vfm_desc.proofs.Steps.{goes_on, ends, is_done, list_all-push}
 use Rattle.vfm_desc.proofs.parts.each_job.Goals as goal

@@ -2,7 +2,7 @@ use Rattle.std.proofs.Common.{◌≡◌, IsTrue, vec_len, drop, map}
 use Rattle.std.specs.List.{list_all}
 use Rattle.serde_json.specs.View.{view}
 use Rattle.vfm_types.specs.Valid.{is_job_in_range}
-use Rattle.vfm_desc.specs.BuiltForms.{is_write}
+use Rattle.vfm_types.specs.Job.{is_write}
 use Rattle.vfm_desc.specs.Reading.{each}
 use Rattle.vfm_desc.specs.Described.{job_in}
 use Rattle.vfm_desc.proofs.Steps.{with_front}
