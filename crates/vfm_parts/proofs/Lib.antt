@@ -1,0 +1,5 @@
+pub mod Listed
+pub mod Sets
+pub mod Words
+pub mod Faults
+pub mod Worlds
