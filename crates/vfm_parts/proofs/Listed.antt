@@ -66,3 +66,32 @@ least_from_same p (suc n) f g h =
 
 pub least_below_same : (n : ℕ) (f g : ℕ → Bool) → ((k : ℕ) → k < n → f k ≡ g k) → least_below n f ≡ least_below n g
 least_below_same n f g h = least_from_same 0 n f g (λ k inside. h k (omega arith))
+
+items_from : {X : Type 0} (xs : List X) (x : X) (p : ℕ) (item : ℕ → X) → ((k : ℕ) → k < length xs → item (p + k) ≡ slice_index_or xs k x)
+    → listed_from p (length xs) item ≡ xs
+items_from [] x p item h = refl
+items_from {X} (y ∷ xs) x p item h =
+    ap₂ (λ (z : X) (zs : List X). z ∷ zs) (here (omega arith) (h 0 (omega arith)))
+    (items_from xs x (p + 1) item (λ k inside. there k (omega arith) (h (k + 1) (omega arith)) (after k (omega arith))))
+  where
+    here : p + 0 ≡ p → item (p + 0) ≡ y → item p ≡ y
+    here e same = rw e at same
+
+    after : (k : ℕ) → k + 1 ≡ suc k → slice_index_or (y ∷ xs) (k + 1) x ≡ slice_index_or xs k x
+    after k e = ap (λ (i : ℕ). slice_index_or (y ∷ xs) i x) e
+
+    there : (k : ℕ) → p + (k + 1) ≡ p + 1 + k → item (p + (k + 1)) ≡ slice_index_or (y ∷ xs) (k + 1) x
+        → slice_index_or (y ∷ xs) (k + 1) x ≡ slice_index_or xs k x → item (p + 1 + k) ≡ slice_index_or xs k x
+    there k e same next = sym (ap item e) ∙ same ∙ next
+
+-- a list is what its own items give
+pub listed_items : {X : Type 0} (n : ℕ) (xs : List X) (x : X) → length xs ≡ n → listed n (λ k. slice_index_or xs k x) ≡ xs
+listed_items n xs x is =
+    ap (λ (m : ℕ). listed m (λ k. slice_index_or xs k x)) (sym is)
+    ∙ items_from xs x 0 (λ k. slice_index_or xs k x) (λ k inside. ap (λ (i : ℕ). slice_index_or xs i x) (omega arith))
+
+-- a list with one item set is what its items give but for that one
+pub listed_set : {X : Type 0} (n : ℕ) (xs : List X) (x : X) (k : ℕ) (y : X) → length xs ≡ n
+    → listed n (λ j. if k == j then y else slice_index_or xs j x) ≡ slice_set xs k y
+listed_set {X} n xs x k y is =
+    sym (set_listed n (λ j. slice_index_or xs j x) k y) ∙ ap (λ (list : List X). slice_set list k y) (listed_items n xs x is)

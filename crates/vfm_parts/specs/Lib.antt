@@ -17,3 +17,4 @@ pub mod JointStep
 pub mod AbortStep
 pub mod ResumeStep
 pub mod Steps
+pub mod Start

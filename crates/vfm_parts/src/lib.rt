@@ -4,4 +4,4 @@
 
 mod local;
 
-pub use local::faults_are_local;
+pub use local::{effects_are_local, faults_are_local, parts_begin};
