@@ -1,5 +1,5 @@
 -- Whether the parts, made entry by entry, allow a journal and are at each of its places what the facts say.
-use Rattle.std.specs.Prelude.{ℕ, ◌==◌, ◌&&◌, not, Bool, true, false, is_none, List, [], ◌∷◌, Option, Some, None}
+use Rattle.std.specs.Prelude.{ℕ, ◌==◌, ◌&&◌, not, Bool, true, false, drop, is_none, reverse, take, List, [], ◌∷◌, Option, Some, None}
 use Rattle.vfm_types.specs.declared.desc.Desc.{Desc}
 use Rattle.vfm_types.specs.declared.entry.Entry.{Entry}
 use Rattle.vfm_types.specs.declared.state.MigState.{MigState}
@@ -66,3 +66,9 @@ is_followed_from D past w (entry ∷ entries) =
 -- the parts follow a journal, oldest entry first, from the described machine on
 abbrev pub is_followed : Desc → List Entry → Bool
 is_followed D journal = is_followed_from D [] (first_world D) journal
+
+-- the parts follow so many entries of a journal from a place on, given the facts of what stands before it
+abbrev pub is_followed_between : Desc → List Entry → ℕ → ℕ → Bool
+is_followed_between D journal place count =
+    let past = reverse (take place journal) in
+    is_followed_from D past (world_of D past) (take count (drop place journal))

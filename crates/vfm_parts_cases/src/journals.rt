@@ -23,7 +23,7 @@ ghost use Rattle.vfm_cases.specs.ThreeFailing.{three_failing, three_failing_run}
 ghost use Rattle.vfm_cases.specs.Mono.{mono, mono_ordered, mono_scattered};
 ghost use Rattle.vfm_cases.specs.Pair.{pair, pair_joined};
 ghost use Rattle.vfm_cases.specs.GivenUp.{given_up_before_begin, given_up_entering, given_up_copying, given_up_reading, given_up_reported, given_up_second_pass, given_up_held, given_up_quiet, given_up_one_stopped, given_up_stopped, given_up_joint, given_up_last_pass, given_up_last_ended};
-ghost use Rattle.vfm_parts_cases.specs.Follows.{is_followed};
+ghost use Rattle.vfm_parts_cases.specs.Follows.{is_followed, is_followed_between};
 
 /// One device with one write: moved, given up, marked within a pass and after a report, and with failing arcs.
 pub fn one_device_is_followed()
@@ -108,7 +108,8 @@ pub fn given_up_moves_are_followed()
     ensures last_ended { is_followed duo given_up_last_ended ≡ true }
 {}
 
-/// Two devices whose journal has some 260 entries.
+/// Of a journal of some 260 entries over 64 pages of 4,096 bytes, the entry that begins the second pass, given what
+/// stands before it.
 pub fn pair_is_followed()
-    ensures joined { is_followed pair pair_joined ≡ true }
+    ensures second { is_followed_between pair pair_joined 207 1 ≡ true }
 {}
