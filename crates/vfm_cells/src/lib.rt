@@ -1,0 +1,7 @@
+//! The cells of a machine on its move, one for each part, and the laws that let each entry be made on the cells that it
+//! touches. Each law is a function without a body whose contract states it.
+#![tactic(auto)]
+
+mod steps;
+
+pub use steps::steps_are_local;
