@@ -23,7 +23,7 @@ use Rattle.vfm_parts.specs.DryStep.{dry_lead}
 use Rattle.vfm_turn.specs.Order.{has}
 use Rattle.vfm_laws.proofs.Rising.{by_bool}
 use Rattle.vfm_cells.specs.Cells.{dev_number, page_number, region_number}
-use Rattle.vfm_cells.specs.Touched.{touched, up_from, aim, is_aimed, has_region}
+use Rattle.vfm_cells.specs.Touched.{touched, up_from, in_order, aim, is_aimed, has_region}
 use Rattle.vfm_cells.proofs.Numbers.{moved_same, own_dev, own_lead, own_page, two_dev, two_page, copy_dev, copy_page, up_has, up_past, order_has}
 
 -- two machines have the same parts in these cells, and the same beyond the devices of the description
@@ -44,7 +44,7 @@ pub record Alike (D : Desc) (q p : Parts) (entry : Entry) (cells : List ℕ) : T
   pub page_kept : (i : ℕ) → i < D.pages → has (page_number D i) cells ≡ false → page_after D p entry i ≡ p.page i
 
 -- what can't be so
-never : {X : Type 0} (b : Bool) → b ≡ false → b ≡ true → X
+pub never : {X : Type 0} (b : Bool) → b ≡ false → b ≡ true → X
 never b absent present = absurd (false≢true (sym absent ∙ present))
 
 -- ---- one device
@@ -146,21 +146,21 @@ module _ (D : Desc) (q p : Parts) (d n : ℕ) (inside : d < device_count D) wher
   abbrev region : Region
   region = aim D d n (q.dev d)
 
-  abbrev cells : List ℕ
-  cells = touched D q (Deliver d n)
+  abbrev reached : List ℕ
+  reached = touched D q (Deliver d n)
 
-  own_has : has (dev_number d) cells ≡ true
+  own_has : has (dev_number d) reached ≡ true
   own_has =
       order_has (dev_number d) (region_number D region) (dev_number d)
       ∙ ap (λ (b : Bool). b || region_number D region == dev_number d) (eq-eqb (d + 1) (d + 1) refl)
 
-  aim_has : has (region_number D region) cells ≡ true
+  aim_has : has (region_number D region) reached ≡ true
   aim_has =
       order_has (dev_number d) (region_number D region) (region_number D region)
       ∙ or_right (dev_number d == region_number D region) (region_number D region == region_number D region)
       (eq-eqb (region_number D region) (region_number D region) refl)
 
-  lead_apart : has 0 cells ≡ false
+  lead_apart : has 0 reached ≡ false
   lead_apart =
       order_has (dev_number d) (region_number D region) 0
       ∙ ap₂ (λ (a b : Bool). a || b) (ne_eqb (d + 1) 0 (λ same. omega arith)) (at region)
@@ -169,7 +169,7 @@ module _ (D : Desc) (q p : Parts) (d n : ℕ) (inside : d < device_count D) wher
       at (Page i) = ne_eqb (i + (device_count D + 1)) 0 (λ same. omega arith)
       at (Bar t) = ne_eqb (t + 1) 0 (λ same. omega arith)
 
-  bar_apart : (k : ℕ) → has (dev_number k) cells ≡ false → ((d == k) ≡ false) × (is_bar_of k region ≡ false)
+  bar_apart : (k : ℕ) → has (dev_number k) reached ≡ false → ((d == k) ≡ false) × (is_bar_of k region ≡ false)
   bar_apart k away =
       let both : ((dev_number d == dev_number k) || (region_number D region == dev_number k)) ≡ false =
       sym (order_has (dev_number d) (region_number D region) (dev_number k)) ∙ away in
@@ -180,7 +180,7 @@ module _ (D : Desc) (q p : Parts) (d n : ℕ) (inside : d < device_count D) wher
       at (Page i) none = refl
       at (Bar t) none = sym (moved_same t k 1) ∙ none
 
-  page_apart : (i : ℕ) → has (page_number D i) cells ≡ false → is_page i region ≡ false
+  page_apart : (i : ℕ) → has (page_number D i) reached ≡ false → is_page i region ≡ false
   page_apart i away =
       at region (neither (dev_number d == page_number D i) (region_number D region == page_number D i)
       (sym (order_has (dev_number d) (region_number D region) (page_number D i)) ∙ away)).1
@@ -189,11 +189,11 @@ module _ (D : Desc) (q p : Parts) (d n : ℕ) (inside : d < device_count D) wher
       at (Page j) none = sym (moved_same j i (device_count D + 1)) ∙ none
       at (Bar t) none = refl
 
-  deliver_alike : has_region D region ≡ true → Agrees D q p cells → Alike D q p (Deliver d n) cells
+  deliver_alike : has_region D region ≡ true → Agrees D q p reached → Alike D q p (Deliver d n) reached
   deliver_alike aimed agrees =
       record {
         fault = ap (λ (dev : Dev). first_failed (conditions_on D p.lead (λ k. dev) (Deliver d n))) own;
-        lead = λ touched. never (has 0 cells) lead_apart touched;
+        lead = λ touched. never (has 0 reached) lead_apart touched;
         dev = λ k h touched.
             ap₂ (λ (dev : Dev) (bytes : List ℕ). if d == k then delivered_dev D d n bytes (q.dev d) else
             (if is_bar_of k region then struck_dev D k (job_in D d n (q.dev d)) (q.dev d).plain.buf dev else dev))
@@ -216,7 +216,7 @@ module _ (D : Desc) (q p : Parts) (d n : ℕ) (inside : d < device_count D) wher
       bytes_same : region_bytes_in q region ≡ region_bytes_in p region
       bytes_same = at region aimed aim_has
         where
-          at : (r : Region) → has_region D r ≡ true → has (region_number D r) cells ≡ true → region_bytes_in q r ≡ region_bytes_in p r
+          at : (r : Region) → has_region D r ≡ true → has (region_number D r) reached ≡ true → region_bytes_in q r ≡ region_bytes_in p r
           at (Page i) there among = agrees.page i (ltb-true i D.pages there) among
           at (Bar t) there among = ap (λ (dev : Dev). dev.plain.bar) (agrees.dev t (ltb-true t (device_count D) there) among)
 
@@ -259,3 +259,32 @@ alike D q p Begin named aimed agrees = all_alike D q p Begin agrees (λ parts pa
 alike D q p Joint named aimed agrees = all_alike D q p Joint agrees (λ parts page. refl) (λ parts page k. refl) (λ parts i. refl)
 alike D q p Abort named aimed agrees = all_alike D q p Abort agrees (λ parts page. refl) (λ parts page k. refl) (λ parts i. refl)
 alike D q p Resume named aimed agrees = all_alike D q p Resume agrees (λ parts page. refl) (λ parts page k. refl) (λ parts i. refl)
+
+agrees_back : (D : Desc) (q p : Parts) (cells : List ℕ) → Agrees D q p cells → Agrees D p q cells
+agrees_back D q p cells agrees =
+    record {
+      lead = λ touched. sym (agrees.lead touched);
+      dev = λ k h touched. sym (agrees.dev k h touched);
+      outside = λ k h. sym (agrees.outside k h);
+      page = λ i h touched. sym (agrees.page i h touched);
+    }
+
+-- parts that agree in the cells that an entry touches are touched alike
+pub touched_alike : (D : Desc) (q p : Parts) (entry : Entry) → is_entry_of D entry ≡ true → Agrees D q p (touched D q entry)
+    → touched D q entry ≡ touched D p entry
+touched_alike D q p (Deliver d n) named agrees =
+    let inside = ltb-true d (device_count D) named in
+    ap (λ (dev : Dev). in_order (dev_number d) (region_number D (aim D d n dev))) (agrees.dev d inside (own_has D q p d n inside))
+touched_alike D q p entry named agrees = refl
+
+pub aimed_alike : (D : Desc) (q p : Parts) (entry : Entry) → is_entry_of D entry ≡ true → Agrees D q p (touched D q entry)
+    → is_aimed D q entry ≡ is_aimed D p entry
+aimed_alike D q p (Deliver d n) named agrees =
+    let inside = ltb-true d (device_count D) named in
+    ap (λ (dev : Dev). has_region D (aim D d n dev)) (agrees.dev d inside (own_has D q p d n inside))
+aimed_alike D q p entry named agrees = refl
+
+-- the same, where the parts agree in the cells that the second ones say
+pub touched_back : (D : Desc) (q p : Parts) (entry : Entry) → is_entry_of D entry ≡ true → Agrees D q p (touched D p entry)
+    → touched D q entry ≡ touched D p entry
+touched_back D q p entry named agrees = sym (touched_alike D p q entry named (agrees_back D q p (touched D p entry) agrees))

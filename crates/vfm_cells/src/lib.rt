@@ -4,4 +4,4 @@
 
 mod steps;
 
-pub use steps::steps_are_local;
+pub use steps::{steps_are_local, steps_are_made};
