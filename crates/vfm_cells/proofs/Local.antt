@@ -1,7 +1,7 @@
 -- What an entry touches decides what it does: parts that agree there allow it alike and become the same there, and
 -- whatever else there is stays as it was.
-use Rattle.std.proofs.Common.{◌≡◌, ℕ, ◌+◌, ◌<◌, ◌≤◌, ◌==◌, ◌&&◌, ◌||◌, Bool, true, false, nat_lt, if◌then◌else◌, List, [], ◌∷◌, Option, IsTrue, refl, ap, ap₂, sym, ◌∙◌, subst, arith, eqb-true, ltb-true, ⊎_elim}
-use Rattle.std.proofs.lemmas.Bool.{eq-eqb, ne_eqb, cond-true, cond-false, cases_lt, and_parts, false≢true, or_left, or_right}
+use Rattle.std.proofs.Common.{◌≡◌, ℕ, ◌+◌, ◌<◌, ◌≤◌, ◌==◌, ◌||◌, Bool, true, false, nat_lt, if◌then◌else◌, List, [], ◌∷◌, refl, ap, ap₂, sym, ◌∙◌, arith, eqb-true, ltb-true, ⊎_elim}
+use Rattle.std.proofs.lemmas.Bool.{eq-eqb, ne_eqb, cond-true, cond-false, cases_lt, and_parts, false≢true, or_right}
 use Rattle.vfm_types.specs.declared.desc.Desc.{Desc}
 use Rattle.vfm_types.specs.declared.job.Region.{Region}
 use Rattle.vfm_types.specs.declared.job.Region.TheVariants.{Page, Bar}
@@ -14,7 +14,7 @@ use Rattle.vfm_plain.specs.Legal.{is_entry_of}
 use Rattle.vfm_parts.specs.Parts.{Dev, Lead, Parts}
 use Rattle.vfm_parts.specs.Steps.{conditions_on, fault_in, lead_after, dev_after, page_after, with_dev}
 use Rattle.vfm_parts.specs.IssueStep.{issued_dev}
-use Rattle.vfm_parts.specs.DeliverStep.{job_in, region_bytes_in, delivered_dev, struck_dev, page_after_job, devs_after_deliver, pages_after_deliver}
+use Rattle.vfm_parts.specs.DeliverStep.{job_in, region_bytes_in, delivered_dev, struck_dev, page_after_job}
 use Rattle.vfm_parts.specs.CompleteStep.{completed_dev}
 use Rattle.vfm_parts.specs.ReportStep.{reported_dev, reported_lead}
 use Rattle.vfm_parts.specs.CopyStep.{copied_lead}
@@ -24,7 +24,7 @@ use Rattle.vfm_turn.specs.Order.{has}
 use Rattle.vfm_laws.proofs.Rising.{by_bool}
 use Rattle.vfm_cells.specs.Cells.{dev_number, page_number, region_number}
 use Rattle.vfm_cells.specs.Touched.{touched, up_from, in_order, aim, is_aimed, has_region}
-use Rattle.vfm_cells.proofs.Numbers.{moved_same, own_dev, own_lead, own_page, two_dev, two_page, copy_dev, copy_page, up_has, up_past, order_has}
+use Rattle.vfm_cells.proofs.Numbers.{moved_same, own_dev, own_lead, own_page, two_dev, two_page, copy_dev, up_has, up_past, order_has}
 
 -- two machines have the same parts in these cells, and the same beyond the devices of the description
 pub record Agrees (D : Desc) (q p : Parts) (cells : List ℕ) : Type 0 where
@@ -172,9 +172,10 @@ module _ (D : Desc) (q p : Parts) (d n : ℕ) (inside : d < device_count D) wher
   bar_apart : (k : ℕ) → has (dev_number k) reached ≡ false → ((d == k) ≡ false) × (is_bar_of k region ≡ false)
   bar_apart k away =
       let both : ((dev_number d == dev_number k) || (region_number D region == dev_number k)) ≡ false =
-      sym (order_has (dev_number d) (region_number D region) (dev_number k)) ∙ away in
-      (sym (moved_same d k 1) ∙ (neither (dev_number d == dev_number k) (region_number D region == dev_number k) both).0,
-      at region (neither (dev_number d == dev_number k) (region_number D region == dev_number k) both).1)
+      sym (order_has (dev_number d) (region_number D region) (dev_number k)) ∙ away in (
+        sym (moved_same d k 1) ∙ (neither (dev_number d == dev_number k) (region_number D region == dev_number k) both).0,
+        at region (neither (dev_number d == dev_number k) (region_number D region == dev_number k) both).1,
+      )
     where
       at : (r : Region) → (region_number D r == dev_number k) ≡ false → is_bar_of k r ≡ false
       at (Page i) none = refl

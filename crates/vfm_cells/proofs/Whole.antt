@@ -1,5 +1,5 @@
 -- The cells of a whole world: what lies in each, and that a step on the touched ones is a step of the whole.
-use Rattle.std.proofs.Common.{◌≡◌, ℕ, suc, zero, ◌+◌, ◌-◌, ◌<◌, ◌≤◌, ◌==◌, ◌&&◌, ◌||◌, Bool, true, false, is_none, nat_lt, if◌then◌else◌, List, [], ◌∷◌, map, length, slice_index_or, Option, Some, None, IsTrue, refl, ap, ap₂, sym, ◌∙◌, subst, arith, eqb-true, ltb-true, lt-ltb, ⊎_elim}
+use Rattle.std.proofs.Common.{◌≡◌, ℕ, ◌+◌, ◌-◌, ◌<◌, ◌≤◌, ◌==◌, ◌&&◌, ◌||◌, Bool, true, false, is_none, nat_lt, if◌then◌else◌, List, [], ◌∷◌, map, Option, Some, None, refl, ap, ap₂, sym, ◌∙◌, subst, arith, eqb-true, ltb-true, lt-ltb, ⊎_elim}
 use Rattle.std.proofs.lemmas.Bool.{eq-eqb, ne_eqb, cond-true, cond-false, cases_lt, cases_eq, and_parts, false≢true, le-ltb}
 use Rattle.std.proofs.lemmas.List.{get_or_past}
 use Rattle.vfm_types.specs.declared.desc.Desc.{Desc}
@@ -10,14 +10,14 @@ use Rattle.vfm_types.specs.declared.job.Region.{Region}
 use Rattle.vfm_types.specs.declared.job.Region.TheVariants.{Page, Bar}
 use Rattle.vfm_types.specs.Desc.{device_count, shape_at, block_count}
 use Rattle.vfm_plain.specs.Legal.{is_entry_of}
-use Rattle.vfm_parts.specs.Parts.{Dev, Lead, World, Parts, parts_in, no_dev, dev_at, page_at, listed}
-use Rattle.vfm_parts.specs.Steps.{fault_in, lead_after, dev_after, page_after, parts_after, fault_on, after_on}
+use Rattle.vfm_parts.specs.Parts.{World, Parts, parts_in, no_dev}
+use Rattle.vfm_parts.specs.Steps.{fault_in, dev_after, page_after, parts_after, fault_on, after_on}
 use Rattle.vfm_parts.proofs.Listed.{listed_at, length-listed}
 use Rattle.vfm_turn.specs.Order.{has}
 use Rattle.vfm_laws.proofs.Rising.{by_bool}
 use Rattle.vfm_laws.proofs.Walks.{some_none}
-use Rattle.vfm_cells.specs.Cells.{Cell, lead_cell, device_cell, page_cell, dev_number, page_number, region_number, cell_count, lead_or_first, dev_or_none, bytes_or_none, cell_in, cell_at, parts_of_cells, IsWhole}
-use Rattle.vfm_cells.specs.Touched.{touched, is_aimed, aim, has_region, up_from, in_order}
+use Rattle.vfm_cells.specs.Cells.{Cell, lead_cell, device_cell, page_cell, dev_number, page_number, region_number, cell_count, lead_or_first, dev_or_none, bytes_or_none, cell_in, cell_at, IsWhole}
+use Rattle.vfm_cells.specs.Touched.{touched, is_aimed, aim, has_region, up_from}
 use Rattle.vfm_cells.specs.CellSteps.{given_at, given_parts, is_same_list, may_step, step_of, IsStepOf}
 use Rattle.vfm_cells.proofs.Numbers.{order_has, up_past}
 use Rattle.vfm_cells.proofs.Local.{Agrees, Alike, alike, touched_alike, aimed_alike, touched_back, never}

@@ -2,6 +2,8 @@
 //! touches. Each law is a function without a body whose contract states it.
 #![tactic(auto)]
 
+mod runs;
 mod steps;
 
+pub use runs::log_is_one_run;
 pub use steps::{steps_are_local, steps_are_made};
