@@ -1,1 +1,3 @@
 pub mod Sealed
+pub mod SealedSteps
+pub mod StagedWorlds

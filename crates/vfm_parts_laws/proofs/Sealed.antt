@@ -1,9 +1,7 @@
 -- Sealed parts that agree in what is still asked allow the same entries, and stay so.
-use Rattle.std.proofs.Common.{◌≡◌, ℕ, ◌+◌, ◌<◌, ◌==◌, ◌&&◌, ◌||◌, not, Bool, true, false, nat_le, nat_lt, is_none, if◌then◌else◌, List, [], ◌∷◌, Option, Some, None, IsTrue, refl, ap, ap₂, sym, ◌∙◌, subst, arith, eqb-true, ltb-true}
-use Rattle.std.proofs.lemmas.Bool.{cond-true, cond-false, and_parts, false≢true, true≢false}
+use Rattle.std.proofs.Common.{◌≡◌, ℕ, ◌<◌, ◌==◌, ◌&&◌, ◌||◌, not, Bool, true, false, nat_lt, is_none, if◌then◌else◌, List, [], ◌∷◌, Option, Some, None, refl, ap, ap₂, sym, ◌∙◌, ltb-true}
+use Rattle.std.proofs.lemmas.Bool.{cond-true, and_parts, false≢true, true≢false}
 use Rattle.vfm_types.specs.declared.desc.Desc.{Desc}
-use Rattle.vfm_types.specs.declared.job.Region.{Region}
-use Rattle.vfm_types.specs.declared.job.Region.TheVariants.{Page, Bar}
 use Rattle.vfm_types.specs.declared.state.MigState.{MigState}
 use Rattle.vfm_types.specs.declared.state.MigState.TheVariants.{PreCopy}
 use Rattle.vfm_types.specs.declared.entry.Entry.{Entry}
@@ -14,32 +12,27 @@ use Rattle.vfm_base.specs.Tests.{first_failed}
 use Rattle.vfm_base.specs.Least.{all_below}
 use Rattle.vfm_types.specs.State.{has_pre_copy}
 use Rattle.vfm_types.specs.Paths.{same_state}
-use Rattle.vfm_types.specs.Desc.{device_count, shape_at, block_count}
-use Rattle.vfm_types.specs.Job.{is_bar_of, is_page}
+use Rattle.vfm_types.specs.Desc.{device_count, shape_at}
 use Rattle.vfm_types.specs.Arcs.{is_p2p, is_stopped}
 use Rattle.vfm_types.specs.Words.{has_barred, is_nothing}
 use Rattle.vfm_plain.specs.Condition.{Condition, is_exactly}
 use Rattle.vfm_plain.specs.Legal.{is_entry_of}
 use Rattle.vfm_plain.specs.ArcRules.{is_entering_p2p, is_stopping, is_leaving_p2p}
-use Rattle.vfm_laws.proofs.Rising.{by_bool}
-use Rattle.vfm_laws.proofs.Walks.{some_none}
 use Rattle.vfm_parts.specs.Parts.{Dev, Lead, Parts}
 use Rattle.vfm_parts.specs.PartWords.{is_on_in, next_copy_in, next_part_in, is_no_pass_open_in, is_quiet_in, none_stopped_in, has_reported_in, is_decided_in}
-use Rattle.vfm_parts.specs.IssueStep.{is_next_to_issue_in, is_request_allowed_in, issued_dev}
-use Rattle.vfm_parts.specs.DeliverStep.{deliver_conditions_in, job_in, region_of_job, region_bytes_in, delivered_dev, struck_dev, page_after_job}
-use Rattle.vfm_parts.specs.CompleteStep.{complete_conditions_in, completed_dev}
+use Rattle.vfm_parts.specs.IssueStep.{is_next_to_issue_in, is_request_allowed_in}
+use Rattle.vfm_parts.specs.DeliverStep.{deliver_conditions_in}
+use Rattle.vfm_parts.specs.CompleteStep.{complete_conditions_in}
 use Rattle.vfm_parts.specs.HoldStep.{is_next_to_stop_copy_in, is_quiet_for_hold_in}
-use Rattle.vfm_parts.specs.ArcStep.{is_arc_home_in, is_right_arc_in, is_quiet_for_arc_in, moved_dev}
+use Rattle.vfm_parts.specs.ArcStep.{is_arc_home_in, is_right_arc_in, is_quiet_for_arc_in}
 use Rattle.vfm_parts.specs.FailStep.{is_right_fail_in}
-use Rattle.vfm_parts.specs.PassStep.{is_next_pass_in, is_pass_wanted_in}
-use Rattle.vfm_parts.specs.BlockStep.{is_block_due_in, next_block_in}
+use Rattle.vfm_parts.specs.PassStep.{is_next_pass_in}
+use Rattle.vfm_parts.specs.BlockStep.{next_block_in}
 use Rattle.vfm_parts.specs.BeginStep.{may_begin_move_in}
 use Rattle.vfm_parts.specs.JointStep.{is_all_in_stop_copy_in}
-use Rattle.vfm_parts.specs.AbortStep.{aborted_dev}
-use Rattle.vfm_parts.specs.ResumeStep.{resumed_dev}
-use Rattle.vfm_parts.specs.Steps.{fault_in, dev_after, page_after, lead_after, parts_after, with_dev}
+use Rattle.vfm_parts.specs.Steps.{fault_in}
 use Rattle.vfm_parts.proofs.Listed.{all_below_same}
-use Rattle.vfm_parts_laws.specs.Staged.{IsSealed, still_asked, AgreesInRest, is_pass}
+use Rattle.vfm_parts_laws.specs.Staged.{IsSealed, AgreesInRest, is_pass}
 
 -- ---- what a sealed machine answers
 
@@ -87,7 +80,7 @@ module _ (D : Desc) (parts : Parts) (sealed : IsSealed D parts) where
   past_joint : (is_on_in lead && not lead.joint) ≡ false
   past_joint = ap (λ (j : Bool). is_on_in lead && not j) sealed.joint ∙ and_none (is_on_in lead)
 
-  hold_sealed : (d : ℕ) (to : MigState) → fault_in D parts (Hold d to) ≡ Some Order
+  pub hold_sealed : (d : ℕ) (to : MigState) → fault_in D parts (Hold d to) ≡ Some Order
   hold_sealed d to =
       ap (λ (b : Bool). first_failed ((b && is_none (parts.dev d).hold, Order) ∷ (is_decided_in D lead, Decide) ∷ (is_next_to_stop_copy_in D d to (parts.dev d), Path)
       ∷ (is_quiet_for_hold_in D to parts.dev, Quiet) ∷ [])) past_joint
@@ -102,7 +95,7 @@ module _ (D : Desc) (parts : Parts) (sealed : IsSealed D parts) where
       ∙ behind (lead.aborted || lead.resumed) (is_right_arc_in D d to lead (parts.dev d)) (is_arc_home_in D d to (parts.dev d)) Order Path
       ((is_quiet_for_arc_in D d to parts.dev, Quiet) ∷ []) (λ done. cond-true _ _ _ done)
 
-  fail_sealed : (d : ℕ) (to : MigState) → fault_in D parts (Fail d to) ≡ first_failed ((lead.aborted || lead.resumed, Order) ∷ (false, Path) ∷ [])
+  pub fail_sealed : (d : ℕ) (to : MigState) → fault_in D parts (Fail d to) ≡ first_failed ((lead.aborted || lead.resumed, Order) ∷ (false, Path) ∷ [])
   fail_sealed d to =
       ap (λ (b : Bool). first_failed ((b, Order) ∷ (is_right_fail_in D d to lead (parts.dev d), Path) ∷ (is_quiet_for_arc_in D d to parts.dev, Quiet) ∷ [])) only_over
       ∙ behind (lead.aborted || lead.resumed) (is_right_fail_in D d to lead (parts.dev d)) false Order Path
@@ -111,20 +104,23 @@ module _ (D : Desc) (parts : Parts) (sealed : IsSealed D parts) where
   no_more : (b : Bool) → (b && (if lead.joint then not lead.last else not (is_decided_in D lead))) ≡ false
   no_more b = ap₂ (λ (j l : Bool). b && (if j then not l else not (is_decided_in D lead))) sealed.joint sealed.last ∙ and_none b
 
-  report_sealed : (d : ℕ) → fault_in D parts (Report d) ≡ first_failed ((is_on_in lead, Order) ∷ (false, Pages) ∷ [])
+  pub report_sealed : (d : ℕ) → fault_in D parts (Report d) ≡ first_failed ((is_on_in lead, Order) ∷ (false, Pages) ∷ [])
   report_sealed d =
       ap (λ (b : Bool). first_failed ((is_on_in lead, Order) ∷ (b, Pages) ∷ []))
       (no_more (nat_lt 0 lead.passes && is_no_pass_open_in D lead && not (has_reported_in lead d)))
 
-  pass_sealed : (k : ℕ) → is_none (fault_in D parts (Pass k)) ≡ false
+  pub pass_sealed : (k : ℕ) → is_none (fault_in D parts (Pass k)) ≡ false
   pass_sealed k =
       ap₂ (λ (j l : Bool). is_none (first_failed ((is_on_in lead, Order) ∷ (is_next_pass_in D k lead, Pages)
-      ∷ (if j then not l else not (is_decided_in D lead)
-      && (not (k == 1) || all_below (device_count D) (λ d. not (has_pre_copy (shape_at D d).flags) || same_state (parts.dev d).state PreCopy)), Decide) ∷ [])))
+      ∷ (
+        if j then not l else not (is_decided_in D lead)
+            && (not (k == 1) || all_below (device_count D) (λ d. not (has_pre_copy (shape_at D d).flags) || same_state (parts.dev d).state PreCopy)),
+        Decide,
+      ) ∷ [])))
       sealed.joint sealed.last
       ∙ three_fail (is_on_in lead) (is_next_pass_in D k lead)
 
-  copy_sealed : (p : ℕ) → fault_in D parts (Copy p) ≡ first_failed ((is_on_in lead, Order) ∷ (false, Pages) ∷ [])
+  pub copy_sealed : (p : ℕ) → fault_in D parts (Copy p) ≡ first_failed ((is_on_in lead, Order) ∷ (false, Pages) ∷ [])
   copy_sealed p =
       ap (λ (b : Bool). first_failed ((is_on_in lead, Order) ∷ (b, Pages) ∷ [])) (not_exactly p (next_copy_in lead) no_copy)
 
@@ -133,19 +129,19 @@ module _ (D : Desc) (parts : Parts) (sealed : IsSealed D parts) where
       ap (λ (x : Bool). is_none (next_copy_in lead) && x && b) (not_exactly d (next_part_in D lead) no_part)
       ∙ ap (λ (x : Bool). x && b) (and_none (is_none (next_copy_in lead)))
 
-  block_sealed : (d b : ℕ) → fault_in D parts (Block d b) ≡ first_failed ((is_on_in lead, Order) ∷ (false, Blocks) ∷ [])
+  pub block_sealed : (d b : ℕ) → fault_in D parts (Block d b) ≡ first_failed ((is_on_in lead, Order) ∷ (false, Blocks) ∷ [])
   block_sealed d b =
       ap (λ (due : Bool). first_failed ((is_on_in lead, Order) ∷ (due, Blocks) ∷ [])) (not_due d (is_exactly b (next_block_in (parts.dev d))))
 
-  dry_sealed : (d : ℕ) → fault_in D parts (Dry d) ≡ first_failed ((is_on_in lead, Order) ∷ (false, Blocks) ∷ [])
+  pub dry_sealed : (d : ℕ) → fault_in D parts (Dry d) ≡ first_failed ((is_on_in lead, Order) ∷ (false, Blocks) ∷ [])
   dry_sealed d =
       ap (λ (due : Bool). first_failed ((is_on_in lead, Order) ∷ (due, Blocks) ∷ [])) (not_due d (is_none (next_block_in (parts.dev d))))
 
-  begin_sealed : fault_in D parts Begin ≡ Some Order
+  pub begin_sealed : fault_in D parts Begin ≡ Some Order
   begin_sealed =
       ap (λ (b : Bool). first_failed ((not b && not lead.aborted && not lead.resumed, Order) ∷ (may_begin_move_in D parts.dev, Start) ∷ [])) sealed.begun
 
-  joint_sealed : fault_in D parts Joint ≡ Some Order
+  pub joint_sealed : fault_in D parts Joint ≡ Some Order
   joint_sealed =
       ap (λ (b : Bool). first_failed ((b, Order) ∷ (is_all_in_stop_copy_in D parts.dev, Standing) ∷ [])) past_joint
 
