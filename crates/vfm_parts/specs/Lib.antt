@@ -18,3 +18,4 @@ pub mod AbortStep
 pub mod ResumeStep
 pub mod Steps
 pub mod Start
+pub mod Fits

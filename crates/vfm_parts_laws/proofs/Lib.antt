@@ -1,3 +1,5 @@
 pub mod Sealed
 pub mod SealedSteps
 pub mod StagedWorlds
+pub mod FittingQueues
+pub mod FittingTargets
