@@ -3,3 +3,4 @@ pub mod SealedSteps
 pub mod StagedWorlds
 pub mod FittingQueues
 pub mod FittingTargets
+pub mod Fitting
