@@ -4,3 +4,4 @@ pub mod StagedWorlds
 pub mod FittingQueues
 pub mod FittingTargets
 pub mod Fitting
+pub mod FittingWorlds
