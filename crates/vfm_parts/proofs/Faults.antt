@@ -49,6 +49,7 @@ use Rattle.vfm_parts.specs.JointStep.{is_all_in_stop_copy_in}
 use Rattle.vfm_parts.specs.Steps.{conditions_on, fault_in}
 use Rattle.vfm_parts.proofs.Listed.{all_below_same}
 use Rattle.vfm_parts.proofs.Sets.{least_is}
+use Rattle.vfm_parts.proofs.Allowed.{on_live}
 use Rattle.vfm_parts.proofs.Words.{freely, copy_is, part_is, closed_is, reported_is, decided_is, held_is}
 
 -- ---- words over several devices
@@ -77,7 +78,7 @@ module _ (D : Desc) (past : List Entry) (parts : Parts) (tells : Tells D past pa
   all_reported_is : all_below (device_count D) (λ d. has_reported_in (lead_of D past) d) ≡ all_below (device_count D) (λ d. has_reported d past)
   all_reported_is = all_below_same (device_count D) _ _ (reported_is D past)
 
-  quiet_for_arc_is : (d : ℕ) (to : MigState) → d < device_count D → is_quiet_for_arc_in D d to parts.dev ≡ is_quiet_for_arc D d to past
+  pub quiet_for_arc_is : (d : ℕ) (to : MigState) → d < device_count D → is_quiet_for_arc_in D d to parts.dev ≡ is_quiet_for_arc D d to past
   quiet_for_arc_is d to h =
       ap (λ (dev : Dev). (not (is_entering_p2p dev.state to) || not (has_barred D d dev.requests))
       && (not (is_stopping dev.state to) || (is_nothing dev.requests && is_quiet_in D parts.dev))
@@ -94,10 +95,8 @@ way_is D past d to =
     || held || (same_state (state_of d past) Stop && same_state to StopCopy && decided)) (held_is d to past) (decided_is D past)
 
 -- blocks are the same until Resume, and no condition asks for them afterwards
-blocks_are : (D : Desc) (past : List Entry) (d : ℕ) → is_on past ≡ true → next_block_in (dev_of D d past) ≡ next_block D d past
-blocks_are D past d on_ =
-    let two = (and_parts (is_begun past && not (is_aborted past) && not (is_resumed past)) (not (is_failed past)) on_).0 in
-    let live = not-true (is_resumed past) (and_parts (is_begun past && not (is_aborted past)) (not (is_resumed past)) two).1 in
+pub blocks_are : (D : Desc) (past : List Entry) (d : ℕ) → is_resumed past ≡ false → next_block_in (dev_of D d past) ≡ next_block D d past
+blocks_are D past d live =
     let blocks = block_count (shape_at D d) in
     rw (live, least_is blocks (λ b. is_unread d b past), least_is blocks (λ b. is_dirty D d b past)) refl
 
@@ -177,12 +176,12 @@ fault_told D past parts tells (Block d b) inside =
     lead_told D past parts tells (Block d b)
     ∙ ap (λ (dev : Dev). first_failed (block_conditions_in D d b (lead_of D past) dev)) (tells.dev d h)
     ∙ second_same (is_on past) (is_block_due_in D d b (lead_of D past) (dev_of D d past)) (is_block_due D d b past) Order Blocks
-    (λ on_. rw (copy_is D past, part_is D past, blocks_are D past d on_) refl)
+    (λ on_. rw (copy_is D past, part_is D past, blocks_are D past d (on_live past on_)) refl)
 fault_told D past parts tells (Dry d) inside =
     lead_told D past parts tells (Dry d)
     ∙ ap (λ (dev : Dev). first_failed (dry_conditions_in D d (lead_of D past) dev)) (tells.dev d (ltb-true d (device_count D) inside))
     ∙ second_same (is_on past) (is_dry_due_in D d (lead_of D past) (dev_of D d past)) (is_dry_due D d past) Order Blocks
-    (λ on_. rw (copy_is D past, part_is D past, blocks_are D past d on_) refl)
+    (λ on_. rw (copy_is D past, part_is D past, blocks_are D past d (on_live past on_)) refl)
 fault_told D past parts tells Begin inside =
     lead_told D past parts tells Begin
     ∙ ap (λ (b : Bool). first_failed ((is_before_move past, Order) ∷ (b, Start) ∷ [])) (begin_is D past parts tells)

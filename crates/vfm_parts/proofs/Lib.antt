@@ -1,8 +1,8 @@
 pub mod Listed
 pub mod Sets
 pub mod Words
-pub mod Faults
 pub mod Allowed
+pub mod Faults
 pub mod Gathered
 pub mod Delivered
 pub mod Deliver

@@ -1,3 +1,4 @@
+pub mod LookFacts
 pub mod Sealed
 pub mod SealedSteps
 pub mod StagedWorlds

@@ -34,6 +34,7 @@ use Rattle.vfm_parts.proofs.Allowed.{on_begun}
 use Rattle.vfm_parts.proofs.Faults.{fault_told}
 use Rattle.vfm_parts.proofs.Worlds.{world_tells, world_after}
 use Rattle.vfm_parts_laws.specs.Staged.{staged_dev, staged_lead, staged_world, IsSealed, still_asked, AgreesInRest, IsStagedAfter, is_pass}
+use Rattle.vfm_parts_laws.proofs.LookFacts.{bare_ended}
 use Rattle.vfm_parts_laws.proofs.Sealed.{fault_same, allowed_same}
 use Rattle.vfm_parts_laws.proofs.SealedSteps.{is_refused, refused, after_agrees, after_sealed, world_agrees, world_sealed}
 
@@ -128,7 +129,7 @@ module _ (D : Desc) (past : List Entry) (valid : IsValid D) (legal : IsLegal D p
   pub staged_first : IsStagedAfter D past (staged_world D here)
   staged_first =
       record {
-        own = record { begun = refl; joint = refl; last = refl; closed = nothing_left; free = λ d h. ap (λ (dev : Dev). dev.logging || dev.released) (staged_at d h) };
+        own = record { begun = refl; joint = refl; last = refl; closed = bare_ended D; free = λ d h. ap (λ (dev : Dev). dev.logging || dev.released) (staged_at d h) };
         listed = record {
           begun = begun;
           joint = joint;
@@ -155,8 +156,3 @@ module _ (D : Desc) (past : List Entry) (valid : IsValid D) (legal : IsLegal D p
       none_at : (item : ℕ → Dev) (k : ℕ) → device_count D ≤ k → slice_index_or (listed (device_count D) item) k no_dev ≡ no_dev
       none_at item k h =
           let count = length-listed (device_count D) item in get_or_past (listed (device_count D) item) k no_dev (omega arith)
-
-      nothing_left : is_no_pass_open_in D (staged_lead D) ≡ true
-      nothing_left =
-          ap is_none (least_below_none (λ d. nat_lt 0 (slice_index_or (listed (device_count D) (λ k. 0)) d 0)) (device_count D)
-          (λ d h. ap (nat_lt 0) (listed_at (device_count D) (λ k. 0) d 0 h)))
