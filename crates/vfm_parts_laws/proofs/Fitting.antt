@@ -72,7 +72,7 @@ one_fits D parts d after fits changed k h =
 
 -- ---- a delivery
 
-bar_inside : (D : Desc) (k offset len : ℕ) (r : Region) → LiesIn D r offset len → is_bar_of k r ≡ true → offset + len ≤ bar_bytes (shape_at D k)
+pub bar_inside : (D : Desc) (k offset len : ℕ) (r : Region) → LiesIn D r offset len → is_bar_of k r ≡ true → offset + len ≤ bar_bytes (shape_at D k)
 bar_inside D k offset len (Page p) lies hit = absurd (false≢true hit)
 bar_inside D k offset len (Bar t) lies hit = subst (λ (j : ℕ). offset + len ≤ bar_bytes (shape_at D j)) (eqb-true t k hit) lies.1
 
@@ -82,7 +82,7 @@ page_inside D i offset len (Bar t) lies hit = absurd (false≢true hit)
 
 module _ (D : Desc) (parts : Parts) (d n : ℕ) (valid : IsValid D) (fits : PartsFit D parts) (inside : d < device_count D)
     (fine : first_failed (deliver_conditions_in n (parts.dev d)) ≡ None) where
-  lies : Lies D (place_of D (job_in D d n (parts.dev d))) (length_of (job_in D d n (parts.dev d)))
+  pub lies : Lies D (place_of D (job_in D d n (parts.dev d))) (length_of (job_in D d n (parts.dev d)))
   lies = job_lies D d n (parts.dev d) valid inside (fits.dev d inside) fine
 
   deliver_dev : (k : ℕ) → k < device_count D → DevFits D k (dev_after D parts (Deliver d n) k)

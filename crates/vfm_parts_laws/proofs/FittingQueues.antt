@@ -45,7 +45,7 @@ empty_fits n = sym (below_none n)
 
 -- ---- lists
 
-length_push : {X : Type 0} (xs : List X) (x : X) → length (xs ++ x ∷ []) ≡ length xs + 1
+pub length_push : {X : Type 0} (xs : List X) (x : X) → length (xs ++ x ∷ []) ≡ length xs + 1
 length_push xs x = length-append xs (x ∷ [])
 
 -- what holds of each holds of the first of the second list
@@ -76,7 +76,7 @@ all_completed P n (r ∷ requests) all =
     (λ same. All-tail (λ q. P q.job) r requests all)
     (λ other. All-cons (λ q. P q.job) r (complete_if true n requests) (All-head (λ q. P q.job) r requests all) (all_completed P n requests (All-tail (λ q. P q.job) r requests all)))
 
-length_completed : (n : ℕ) (requests : List Outstanding) → is_arrived n requests ≡ true → length requests ≡ length (complete_if true n requests) + 1
+pub length_completed : (n : ℕ) (requests : List Outstanding) → is_arrived n requests ≡ true → length requests ≡ length (complete_if true n requests) + 1
 length_completed n [] arrived = absurd (false≢true arrived)
 length_completed n (r ∷ requests) arrived =
     by_bool (r.number == n)
@@ -86,7 +86,7 @@ length_completed n (r ∷ requests) arrived =
 
 -- ---- Issue
 
-turn_in : (D : Desc) (d n : ℕ) (dev : Dev) → is_next_to_issue_in D d n dev ≡ true → HasTurn D d n dev.plain dev.requests
+pub turn_in : (D : Desc) (d n : ℕ) (dev : Dev) → is_next_to_issue_in D d n dev ≡ true → HasTurn D d n dev.plain dev.requests
 turn_in D d n dev turn =
     let pending = dev.plain.pending in
     let requests = dev.requests in

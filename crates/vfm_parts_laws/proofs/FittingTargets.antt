@@ -24,10 +24,10 @@ use Rattle.vfm_parts.specs.DeliverStep.{rung, struck, target_after_job, page_aft
 use Rattle.vfm_parts_laws.proofs.FittingQueues.{set_fits, same_queue}
 
 -- what a device keeps that is written or rung
-record PlainKept (D : Desc) (t : ℕ) (before after : DeviceState) : Type 0 where
-  shape : DeviceHasShape (shape_at D t) before → DeviceHasShape (shape_at D t) after
-  grown : IsGrown D t before after
-  lost : before.lost ≤ 4294967295 → after.lost ≤ 4294967295
+pub record PlainKept (D : Desc) (t : ℕ) (before after : DeviceState) : Type 0 where
+  pub shape : DeviceHasShape (shape_at D t) before → DeviceHasShape (shape_at D t) after
+  pub grown : IsGrown D t before after
+  pub lost : before.lost ≤ 4294967295 → after.lost ≤ 4294967295
 
 kept_same : (D : Desc) (t : ℕ) (plain : DeviceState) → PlainKept D t plain plain
 kept_same D t plain =
@@ -74,7 +74,7 @@ kept_struck D t place bytes plain inside =
     (λ b. PlainKept D t plain (if b then rung (shape_at D t) plain (from_le_bytes w64 bytes) else record plain { bar = splice plain.bar place.offset bytes }))
     (λ bell. kept_rung D t plain (from_le_bytes w64 bytes)) (λ write. kept_written D t plain place.offset bytes inside)
 
-kept_target : (D : Desc) (t : ℕ) (job : Job) (buf : List ℕ) (plain : DeviceState)
+pub kept_target : (D : Desc) (t : ℕ) (job : Job) (buf : List ℕ) (plain : DeviceState)
     → (place_of D job).offset + length_of job ≤ bar_bytes (shape_at D t) → PlainKept D t plain (target_after_job D t job buf plain)
 kept_target D t (Write at bytes) buf plain inside = kept_struck D t (place_of D (Write at bytes)) bytes plain (λ is. omega arith)
 kept_target D t (Read at len) buf plain inside = kept_same D t plain

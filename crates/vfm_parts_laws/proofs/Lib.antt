@@ -6,3 +6,5 @@ pub mod FittingQueues
 pub mod FittingTargets
 pub mod Fitting
 pub mod FittingWorlds
+pub mod Sums
+pub mod Standing
