@@ -8,3 +8,4 @@ pub mod Fitting
 pub mod FittingWorlds
 pub mod Sums
 pub mod Standing
+pub mod Falls

@@ -19,10 +19,16 @@ use Rattle.vfm_laws.proofs.Conditions.{met}
 use Rattle.vfm_laws.proofs.Steps.{same_is, hold_step, home_step, hold_arc, arc_known}
 use Rattle.vfm_parts.specs.Parts.{Dev, Lead, Parts}
 use Rattle.vfm_parts.specs.PartWords.{is_decided_in, is_next_towards_in, is_hold_for, is_way_open_in}
-use Rattle.vfm_parts.specs.DeliverStep.{job_in, region_of_job}
+use Rattle.vfm_types.specs.declared.job.Region.{Region}
+use Rattle.vfm_parts.specs.IssueStep.{issued_dev}
+use Rattle.vfm_parts.specs.CompleteStep.{completed_dev}
+use Rattle.vfm_parts.specs.FailStep.{failed_dev}
+use Rattle.vfm_parts.specs.ReportStep.{reported_dev}
+use Rattle.vfm_parts.specs.BlockStep.{read_dev}
+use Rattle.vfm_parts.specs.DeliverStep.{job_in, region_of_job, region_bytes_in, delivered_dev, struck_dev}
 use Rattle.vfm_parts.specs.HoldStep.{may_be_held_in, is_next_to_stop_copy_in, is_quiet_for_hold_in}
 use Rattle.vfm_parts.specs.ArcStep.{may_take_arcs_in, is_arc_home_in, is_right_arc_in, is_quiet_for_arc_in}
-use Rattle.vfm_parts.specs.Steps.{fault_in, with_dev, parts_after, dev_after}
+use Rattle.vfm_parts.specs.Steps.{fault_in, with_dev, parts_after, dev_after, lead_after}
 use Rattle.vfm_parts_laws.specs.Room.{is_over, DevStands, PartsStand}
 
 -- ---- what a hold and an arc are allowed for
@@ -113,6 +119,41 @@ one_stands : (D : Desc) (parts : Parts) (lead : Lead) (d : ℕ) (after : Dev) �
 one_stands D parts lead d after own others k h =
     by_bool (d == k) (λ b. DevStands lead (if b then after else parts.dev k)) (λ here. own) (λ away. others k h)
 
+-- one device changed in other things than its state and its hold
+one_as : (D : Desc) (parts : Parts) (other : Lead) (d : ℕ) (change : Dev → Dev) → PartsStand D parts → d < device_count D
+    → (is_over other ≡ false → is_over parts.lead ≡ false) → ((x : Dev) → (change x).state ≡ x.state) → ((x : Dev) → (change x).hold ≡ x.hold)
+    → (k : ℕ) → k < device_count D → DevStands other (with_dev d (change (parts.dev d)) parts.dev k)
+one_as D parts other d change stands inside over state hold k h =
+    by_bool (d == k) (λ b. DevStands other (if b then change (parts.dev d) else parts.dev k))
+    (λ here. as_before parts.lead other (parts.dev d) (change (parts.dev d)) (stands d inside) over (state (parts.dev d)) (λ to is. sym (hold (parts.dev d)) ∙ is))
+    (λ away. as_before parts.lead other (parts.dev k) (parts.dev k) (stands k h) over refl (λ to is. is))
+
+all_as : (D : Desc) (parts : Parts) (other : Lead) → PartsStand D parts → (is_over other ≡ false → is_over parts.lead ≡ false)
+    → (k : ℕ) → k < device_count D → DevStands other (parts.dev k)
+all_as D parts other stands over k h = as_before parts.lead other (parts.dev k) (parts.dev k) (stands k h) over refl (λ to is. is)
+
+deliver_stands : (D : Desc) (parts : Parts) (d n : ℕ) → PartsStand D parts → d < device_count D
+    → (k : ℕ) → k < device_count D → DevStands parts.lead (dev_after D parts (Deliver d n) k)
+deliver_stands D parts d n stands inside k h =
+    by_bool (d == k)
+    (λ b. DevStands parts.lead (if b then own else (if is_bar_of k region then target else parts.dev k)))
+    (λ here. as_before parts.lead parts.lead (parts.dev d) own (stands d inside) (λ moving. moving) refl (λ to is. is))
+    (λ away. by_bool (is_bar_of k region) (λ b. DevStands parts.lead (if b then target else parts.dev k))
+    (λ hit. as_before parts.lead parts.lead (parts.dev k) target (stands k h) (λ moving. moving) refl (λ to is. is)) (λ miss. stands k h))
+  where
+    region : Region
+    region = region_of_job D (job_in D d n (parts.dev d))
+
+    own : Dev
+    own = delivered_dev D d n (region_bytes_in parts region) (parts.dev d)
+
+    target : Dev
+    target = struck_dev D k (job_in D d n (parts.dev d)) (parts.dev d).plain.buf (parts.dev k)
+
+or_true : (b : Bool) → (b || true) ≡ true
+or_true true = refl
+or_true false = refl
+
 pub step_stands : (D : Desc) (parts : Parts) (entry : Entry) → PartsStand D parts → is_entry_of D entry ≡ true → fault_in D parts entry ≡ None
     → PartsStand D (parts_after D parts entry)
 step_stands D parts (Hold d to) stands named fine =
@@ -136,4 +177,25 @@ step_stands D parts (Arc d to) stands named fine =
     let own = stands d (ltb-true d (device_count D) named) in
     one_stands D parts parts.lead d _
     (record { known = way_known D parts.lead (parts.dev d) d to own (arc_allowed D parts d to fine); held = λ moving s is. absurd (some_none s is) }) stands
-step_stands D parts entry stands named fine = ?
+step_stands D parts (Issue d n) stands named fine =
+    one_as D parts parts.lead d (issued_dev n) stands (ltb-true d (device_count D) named) (λ moving. moving) (λ x. refl) (λ x. refl)
+step_stands D parts (Deliver d n) stands named fine = deliver_stands D parts d n stands (ltb-true d (device_count D) named)
+step_stands D parts (Complete d n) stands named fine =
+    one_as D parts parts.lead d (completed_dev D d n) stands (ltb-true d (device_count D) named) (λ moving. moving) (λ x. refl) (λ x. refl)
+step_stands D parts (Fail d to) stands named fine =
+    one_as D parts (lead_after D parts (Fail d to)) d failed_dev stands (ltb-true d (device_count D) named) (λ moving. moving) (λ x. refl) (λ x. refl)
+step_stands D parts (Report d) stands named fine =
+    one_as D parts (lead_after D parts (Report d)) d reported_dev stands (ltb-true d (device_count D) named) (λ moving. moving) (λ x. refl) (λ x. refl)
+step_stands D parts (Block d b) stands named fine =
+    one_as D parts (lead_after D parts (Block d b)) d (read_dev D d b) stands
+    (ltb-true d (device_count D) (and_parts (nat_lt d (device_count D)) (nat_lt b (block_count (shape_at D d))) named).0) (λ moving. moving) (λ x. refl) (λ x. refl)
+step_stands D parts (Pass k) stands named fine = all_as D parts (lead_after D parts (Pass k)) stands (λ moving. moving)
+step_stands D parts (Copy p) stands named fine = all_as D parts (lead_after D parts (Copy p)) stands (λ moving. moving)
+step_stands D parts (Dry d) stands named fine = all_as D parts (lead_after D parts (Dry d)) stands (λ moving. moving)
+step_stands D parts Joint stands named fine = all_as D parts (lead_after D parts Joint) stands (λ moving. moving)
+step_stands D parts Begin stands named fine =
+    λ k h. as_before parts.lead (lead_after D parts Begin) (parts.dev k) _ (stands k h) (λ moving. moving) refl (λ to is. is)
+step_stands D parts Abort stands named fine =
+    λ k h. record { known = (stands k h).known; held = λ moving to is. absurd (true≢false moving) }
+step_stands D parts Resume stands named fine =
+    λ k h. record { known = refl; held = λ moving to is. absurd (true≢false (sym (or_true parts.lead.aborted) ∙ moving)) }

@@ -75,9 +75,9 @@ device_left D parts d =
 abbrev pub pass_size : Desc → ℕ
 pass_size D = 1 + D.pages + sum_by (λ shape. block_count shape + 2) D.devices
 
--- how many passes may still begin
+-- how many passes may still begin: after Joint the last one, and before it as many more as `rounds` allows
 abbrev pub passes_left : Desc → Lead → ℕ
-passes_left D lead = if lead.last then 0 else D.rounds - lead.passes + 1
+passes_left D lead = if lead.joint then (if lead.last then 0 else 1) else D.rounds - lead.passes + 1
 
 -- Begin, Joint, a failing arc, and one of Abort and Resume
 abbrev pub phases_left : Lead → ℕ
