@@ -1,0 +1,4 @@
+pub mod Numbers
+pub mod Local
+pub mod Whole
+pub mod WholeRuns

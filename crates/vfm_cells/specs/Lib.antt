@@ -1,0 +1,4 @@
+pub mod Cells
+pub mod Touched
+pub mod CellSteps
+pub mod WholeRun

@@ -1,0 +1,11 @@
+pub mod LookFacts
+pub mod Sealed
+pub mod SealedSteps
+pub mod StagedWorlds
+pub mod FittingQueues
+pub mod FittingTargets
+pub mod Fitting
+pub mod FittingWorlds
+pub mod Sums
+pub mod Standing
+pub mod Falls
