@@ -1,1 +1,1 @@
-pub mod LeastDevice
+pub mod AllDevices

@@ -2,7 +2,7 @@
 use Rattle.std.proofs.Common.{sym, arith}
 use Rattle.vfm_types.specs.Paths.{same_state}
 use Rattle.vfm_quiet.specs.Seen.{seen}
-use Rattle.vfm_quiet.proofs.LeastDevice.{all_pass, one_fails}
+use Rattle.vfm_quiet.proofs.AllDevices.{all_pass, one_fails}
 use Rattle.vfm_quiet.proofs.devices.all_in.Goals as goal
 
 pub returns-then-not-is_in : goal.returns-then-not-is_in

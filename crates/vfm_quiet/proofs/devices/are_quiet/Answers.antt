@@ -2,7 +2,7 @@
 use Rattle.std.proofs.Common.{sym, arith, ◌||◌}
 use Rattle.vfm_types.specs.Arcs.{is_p2p, is_stopped}
 use Rattle.vfm_quiet.specs.Seen.{seen}
-use Rattle.vfm_quiet.proofs.LeastDevice.{all_pass, one_fails}
+use Rattle.vfm_quiet.proofs.AllDevices.{all_pass, one_fails}
 use Rattle.vfm_quiet.proofs.devices.are_quiet.Goals as goal
 
 pub returns-then-not-is_quiet : goal.returns-then-not-is_quiet

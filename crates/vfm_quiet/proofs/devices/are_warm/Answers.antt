@@ -1,7 +1,7 @@
 -- One device that fails the test, or all pass.
 use Rattle.std.proofs.Common.{sym, arith}
 use Rattle.vfm_quiet.specs.Seen.{sees_warm}
-use Rattle.vfm_quiet.proofs.LeastDevice.{all_pass, one_fails}
+use Rattle.vfm_quiet.proofs.AllDevices.{all_pass, one_fails}
 use Rattle.vfm_quiet.proofs.devices.are_warm.Goals as goal
 
 pub returns-then-not-is_warm : goal.returns-then-not-is_warm
