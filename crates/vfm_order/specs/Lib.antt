@@ -1,0 +1,2 @@
+pub mod LookAfter
+pub mod Coordinator

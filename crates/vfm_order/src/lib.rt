@@ -1,0 +1,9 @@
+//! Laws of the coordinator's order over legal runs. Each is a function without a body whose contract states the law; the
+//! definitions are those of `vfm_quiet`, `vfm_types` and `vfm_plain`.
+#![tactic(auto)]
+
+mod making;
+mod waiting;
+
+pub use making::{aborts_where_due, wants_may_be_made};
+pub use waiting::{done_where_done, waits_where_stuck};
