@@ -9,3 +9,4 @@ pub mod Passes
 pub mod Outward
 pub mod Whole
 pub mod Wants
+pub mod StagedLooks

@@ -3,7 +3,9 @@
 #![tactic(auto)]
 
 mod making;
+mod staged;
 mod waiting;
 
 pub use making::{aborts_where_due, wants_may_be_made};
+pub use staged::{staged_order_is_home, staged_wants_may_be_made};
 pub use waiting::{done_where_done, waits_where_stuck};
