@@ -63,11 +63,19 @@ unbegun_off false a r f x = refl
 
 module _ (D : Desc) (past : List Entry) (n : ℕ) (valid : IsValid D) (legal : IsLegal D past) where
   -- home
-  home_arc : (d : ℕ) → is_over past ≡ true → next_arc D d past ≡ next_towards (state_of d past) Running (shape_at D d).flags
+  pub home_arc : (d : ℕ) → is_over past ≡ true → next_arc D d past ≡ next_towards (state_of d past) Running (shape_at D d).flags
   home_arc d over =
       ap (λ (b : Bool).
       if b then next_towards (state_of d past) Running (shape_at D d).flags
       else unwrap_or (hold_of d past) (next_towards (state_of d past) StopCopy (shape_at D d).flags)) over
+
+  -- before anything is given up, the next arc is the one that a device is held for
+  pub out_arc : (d : ℕ) → is_over past ≡ false
+      → next_arc D d past ≡ unwrap_or (hold_of d past) (next_towards (state_of d past) StopCopy (shape_at D d).flags)
+  out_arc d open_ =
+      ap (λ (b : Bool).
+      if b then next_towards (state_of d past) Running (shape_at D d).flags
+      else unwrap_or (hold_of d past) (next_towards (state_of d past) StopCopy (shape_at D d).flags)) open_
 
   over_not_due : is_over past ≡ true → is_abort_due D past n ≡ false
   over_not_due over =

@@ -10,3 +10,4 @@ pub mod Outward
 pub mod Whole
 pub mod Wants
 pub mod StagedLooks
+pub mod Motion

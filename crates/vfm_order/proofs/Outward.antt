@@ -46,7 +46,7 @@ use Rattle.vfm_order.proofs.OnWay.{Way, entering, held, final, way_of}
 use Rattle.vfm_order.proofs.Seeing.{seen_after, ready_after, all_in_after, quiet_after, out_after}
 use Rattle.vfm_order.proofs.Meets.{IsGoing, hold_made, joint_made}
 use Rattle.vfm_order.proofs.Barred.{Barred, all_barred, hold_rules, arc_rules, fail_rules, begin_met}
-use Rattle.vfm_order.proofs.Fits.{Fits, for_fits}
+use Rattle.vfm_order.proofs.Fits.{Fits, for_fits, out_arc}
 use Rattle.vfm_order.proofs.Passes.{out_fits}
 
 -- a device in STOP isn't held
@@ -59,12 +59,8 @@ not_exactly k None none = refl
 not_exactly k (Some x) none = absurd (false≢true none)
 
 module _ (D : Desc) (past : List Entry) (n : ℕ) (valid : IsValid D) (legal : IsLegal D past) (going : IsGoing D past) (due : is_abort_due D past n ≡ false) where
-  -- before anything is given up, the next arc is the one that a device is held for
   outward_arc : (d : ℕ) → next_arc D d past ≡ unwrap_or (hold_of d past) (next_towards (state_of d past) StopCopy (shape_at D d).flags)
-  outward_arc d =
-      ap (λ (b : Bool).
-      if b then next_towards (state_of d past) Running (shape_at D d).flags
-      else unwrap_or (hold_of d past) (next_towards (state_of d past) StopCopy (shape_at D d).flags)) going.open_
+  outward_arc d = out_arc D past n valid legal d going.open_
 
   held_fits : (d : ℕ) → is_joint past ≡ false → is_decided D past ≡ true → IsLeast (device_count D) (λ k. may_be_held D (look_after D past) k) d
       → Fits D past n (Do (Hold d (next_seen D (look_after D past) d StopCopy)))
