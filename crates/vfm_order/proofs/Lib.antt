@@ -11,3 +11,4 @@ pub mod Whole
 pub mod Wants
 pub mod StagedLooks
 pub mod Motion
+pub mod SameLooks

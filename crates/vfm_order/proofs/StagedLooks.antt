@@ -30,7 +30,7 @@ use Rattle.vfm_order.proofs.Seeing.{few_devices, seen_after}
 use Rattle.vfm_order.proofs.Wants.{want_made}
 
 -- entries that agree where they count
-do_for_same : (first second : ℕ → Entry) (o : Option ℕ) (other : Want) → ((d : ℕ) → o ≡ Some d → first d ≡ second d) → do_for first o other ≡ do_for second o other
+pub do_for_same : (first second : ℕ → Entry) (o : Option ℕ) (other : Want) → ((d : ℕ) → o ≡ Some d → first d ≡ second d) → do_for first o other ≡ do_for second o other
 do_for_same first second None other same = refl
 do_for_same first second (Some d) other same = ap Do (same d refl)
 
