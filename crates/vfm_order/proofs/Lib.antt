@@ -1,0 +1,14 @@
+pub mod Numbers
+pub mod Ways
+pub mod OnWay
+pub mod Seeing
+pub mod Meets
+pub mod Barred
+pub mod Fits
+pub mod Passes
+pub mod Outward
+pub mod Whole
+pub mod Wants
+pub mod StagedLooks
+pub mod Motion
+pub mod SameLooks

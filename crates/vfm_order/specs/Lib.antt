@@ -1,0 +1,3 @@
+pub mod LookAfter
+pub mod Coordinator
+pub mod Alike

@@ -1,0 +1,16 @@
+-- The first device that passes is the least one, and where none passes there is none.
+use Rattle.std.proofs.Common.{sym, arith, below_more}
+use Rattle.vfm_quiet.specs.Seen.{may_be_held}
+use Rattle.vfm_base.proofs.LeastPages.{least_below_found, least_below_none}
+use Rattle.vfm_quiet.proofs.devices.least_to_hold.Goals as goal
+
+pub returns-then-may_be_held-clause-value : goal.returns-then-may_be_held-clause-value
+returns-then-may_be_held-clause-value c =
+    sym (least_below_found (λ d. may_be_held c.args.desc.now c.args.look.now d) c.args.look.now.count c.loop-d.d (omega arith) (sym c.if-may_be_held.ensures) c.loop-d.invariant)
+
+pub returns-clause-value : goal.returns-clause-value
+returns-clause-value c =
+    sym (least_below_none (λ d. may_be_held c.args.desc.now c.args.look.now d) c.args.look.now.count (λ k below. c.loop-d.invariant k (omega arith)))
+
+pub loop-d-preserved : goal.loop-d-preserved
+loop-d-preserved c = below_more _ _ c.loop-d.invariant (sym c.if-may_be_held.ensures)
