@@ -1,0 +1,5 @@
+pub mod Tests
+pub mod Conditions
+pub mod PageWrites
+pub mod Delivered
+pub mod KnownPages
