@@ -3,3 +3,5 @@ pub mod Conditions
 pub mod PageWrites
 pub mod Delivered
 pub mod KnownPages
+pub mod BlockWrites
+pub mod KnownBlocks
