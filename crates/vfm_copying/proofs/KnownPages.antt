@@ -63,15 +63,16 @@ unset D past k q inside left =
     left_false true h = h
     left_false false h = refl
 
+-- a pass whose number isn't 1 isn't the first
+pub not_first : (past : List Entry) (k : ℕ) → k ≡ pass_count past + 1 → (k == 1) ≡ false → 0 < pass_count past
+not_first past k number later = let other : k ≡ 1 → ⊥ = eqb-false k 1 later in grind (arith, other, number)
+
 fresh_pass : (D : Desc) (past : List Entry) (k q : ℕ) → IsLegal D (Pass k ∷ past) → q < D.pages → IsFresh D q (Pass k ∷ past) → IsFresh D q past
 fresh_pass D past k q legal inside fresh =
     let met = pass_parts D past k legal.1 in
     let out = unset D past k q inside fresh.1 in
     let number : k ≡ pass_count past + 1 = met.number in
-    (again number out.0, none_left D past q met.ended inside, fresh.2, (λ d within reported. out.1 d within), fresh.4)
-  where
-    again : k ≡ pass_count past + 1 → (k == 1) ≡ false → 0 < pass_count past
-    again number later = let other : k ≡ 1 → ⊥ = eqb-false k 1 later in grind (arith, other, number)
+    (not_first past k number out.0, none_left D past q met.ended inside, fresh.2, (λ d within reported. out.1 d within), fresh.4)
 
 fresh_report : (D : Desc) (past : List Entry) (e q : ℕ) → IsLegal D (Report e ∷ past) → IsFresh D q (Report e ∷ past) → IsFresh D q past
 fresh_report D past e q legal fresh = (fresh.0, fresh.1, marks, reports, fresh.4)

@@ -5,3 +5,7 @@ pub mod Delivered
 pub mod KnownPages
 pub mod BlockWrites
 pub mod KnownBlocks
+pub mod Decided
+pub mod LastPass
+pub mod LastBlocks
+pub mod FewCopies

@@ -72,6 +72,10 @@ count_same zero f g same = refl
 count_same (suc n) f g same =
     rw (count_same n f g (λ k h. same k (omega arith)), same n (omega arith)) refl
 
+pub count_zero : (n : ℕ) (test : ℕ → Bool) → ((k : ℕ) → k < n → test k ≡ false) → count_below n test ≡ 0
+count_zero zero test none = refl
+count_zero (suc n) test none = rw (count_zero n test (λ k h. none k (omega arith)), none n (omega arith)) refl
+
 -- of two tests that differ at one number alone, which the first passes and the second fails
 pub count_cleared : (n : ℕ) (f g : ℕ → Bool) (p : ℕ) → p < n → f p ≡ true → g p ≡ false → ((k : ℕ) → (k ≡ p → ⊥) → f k ≡ g k)
     → count_below n f ≡ count_below n g + 1
