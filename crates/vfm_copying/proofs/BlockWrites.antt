@@ -1,5 +1,5 @@
 -- A job that doesn't write a block of a BAR leaves its bytes.
-use Rattle.std.proofs.Common.{◌≡◌, ℕ, ◌+◌, ◌-◌, ◌*◌, ◌<◌, ◌≤◌, ◌==◌, Bool, true, false, not, ◌&&◌, if◌then◌else◌, nat_lt, List, ◌++◌, length, take, drop, get_or, refl, ap, sym, ◌∙◌, subst, arith, ◌⊎◌, inl, inr, ⊎_elim, ltb-false, eq-eqb}
+use Rattle.std.proofs.Common.{◌≡◌, ℕ, ◌+◌, ◌-◌, ◌*◌, ◌<◌, ◌≤◌, ◌==◌, Bool, true, false, not, ◌&&◌, nat_lt, List, ◌++◌, length, take, drop, get_or, refl, ap, sym, ◌∙◌, subst, arith, ◌⊎◌, inl, inr, ⊎_elim, ltb-false, eq-eqb}
 use Rattle.std.proofs.lemmas.Bool.{and_cases, cases_Bool, cond-false, both_ways}
 use Rattle.std.proofs.lemmas.List.{length-take, length-drop, length-append, length-take-le, get_or_append_left, get_or-append_right, get_or-take, get_or-drop, ext_get_or}
 use Rattle.std.specs.Int.{w64, from_le_bytes}
@@ -18,7 +18,6 @@ use Rattle.vfm_types.specs.Blocks.{writes_block}
 use Rattle.vfm_plain.specs.Shape.{HasShape, LiesIn, Lies}
 use Rattle.vfm_plain.proofs.Steps.{each_changed, length-splice, within_region}
 use Rattle.vfm_plain.proofs.Effects.{bell-bytes}
-use Rattle.vfm_laws.proofs.Rising.{by_bool}
 
 -- the bytes of a splice before what was put, and those behind it
 splice_before : (old : List ℕ) (offset : ℕ) (bytes : List ℕ) (j : ℕ) → offset + length bytes ≤ length old → j < offset

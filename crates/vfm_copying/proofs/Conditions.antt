@@ -1,8 +1,8 @@
 -- From an entry that breaks no rule to each of its conditions, by name.
-use Rattle.std.proofs.Common.{◌≡◌, ℕ, ◌+◌, ◌==◌, true, false, not, ◌&&◌, ◌||◌, if◌then◌else◌, List, [], ◌∷◌, nat_lt, nat_le, Option, Some, None, is_none, eqb-true}
-use Rattle.std.proofs.lemmas.Bool.{and_parts, not-true, false≢true}
+use Rattle.std.proofs.Common.{◌≡◌, ℕ, ◌+◌, ◌==◌, true, false, not, ◌&&◌, ◌||◌, if◌then◌else◌, List, [], ◌∷◌, nat_lt, nat_le, Some, None, is_none, eqb-true}
+use Rattle.std.proofs.lemmas.Bool.{and_parts, not-true}
 use Rattle.vfm_types.specs.declared.entry.Entry.{Entry}
-use Rattle.vfm_types.specs.declared.entry.Entry.TheVariants.{Report, Pass, Copy, Block, Dry, Begin, Joint, Resume, Hold}
+use Rattle.vfm_types.specs.declared.entry.Entry.TheVariants.{Report, Pass, Copy, Block, Dry, Begin, Joint, Hold}
 use Rattle.vfm_types.specs.declared.entry.Rule.TheVariants.{Start, Pages, Blocks, Decide, Order, Path, Quiet, Joint as Standing}
 use Rattle.vfm_types.specs.declared.state.MigState.{MigState}
 use Rattle.vfm_types.specs.declared.state.MigState.TheVariants.{Stop, StopCopy}

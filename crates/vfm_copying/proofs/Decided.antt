@@ -1,7 +1,7 @@
 -- Before the joint stop: a device that has reported since the newest pass began has a move that isn't decided, and a device
 -- that is held or stopped has one that is.
-use Rattle.std.proofs.Common.{◌≡◌, ℕ, ◌<◌, ◌==◌, Bool, true, false, not, ◌&&◌, ◌||◌, if◌then◌else◌, List, [], ◌∷◌, nat_lt, nat_le, Option, Some, None, is_none, refl, ap, sym, ◌∙◌, subst, ⊎_elim}
-use Rattle.std.proofs.lemmas.Bool.{and_parts, and_left, and_right, or_cases, or_left, or_right, not-true, false≢true, true≢false, both_ways, false_from_ne_true}
+use Rattle.std.proofs.Common.{◌≡◌, ℕ, ◌==◌, Bool, true, false, not, ◌&&◌, ◌||◌, if◌then◌else◌, List, [], ◌∷◌, nat_lt, nat_le, Option, Some, None, is_none, refl, ap, subst, ⊎_elim}
+use Rattle.std.proofs.lemmas.Bool.{and_parts, and_right, or_cases, or_left, or_right, not-true, false≢true, true≢false, both_ways}
 use Rattle.vfm_types.specs.declared.desc.Desc.{Desc}
 use Rattle.vfm_types.specs.declared.entry.Entry.{Entry}
 use Rattle.vfm_types.specs.declared.entry.Entry.TheVariants.{Hold, Arc, Report, Pass, Copy, Block, Dry, Joint, Abort, Resume}
@@ -16,10 +16,9 @@ use Rattle.vfm_types.specs.Arcs.{state_of, hold_of, is_stopped}
 use Rattle.vfm_types.specs.Marks.{has_reported, next_copy, set_size}
 use Rattle.vfm_types.specs.Blocks.{next_part, is_no_pass_open}
 use Rattle.vfm_types.specs.Words.{is_decided}
-use Rattle.vfm_plain.specs.Rules.{fault_of}
 use Rattle.vfm_plain.specs.Legal.{IsLegal}
 use Rattle.vfm_laws.proofs.Rising.{by_bool}
-use Rattle.vfm_laws.proofs.Conditions.{OpenWay, ArcWay, early, held, final, homeward, outward, arc_met, arc_way, resume_met, joint_met}
+use Rattle.vfm_laws.proofs.Conditions.{OpenWay, ArcWay, early, held, final, homeward, outward, arc_met, arc_way, resume_met}
 use Rattle.vfm_copying.proofs.Conditions.{pass_parts, report_parts, copy_parts, block_parts, dry_parts, hold_decided}
 
 -- a pass is open where a page or a part is due
@@ -34,9 +33,11 @@ pub reported_undecided : (D : Desc) (past : List Entry) → IsLegal D past → i
     → (is_no_pass_open D past ≡ true) × (is_decided D past ≡ false)
 reported_undecided D [] legal apart d reported = absurd (false≢true reported)
 reported_undecided D (Report e ∷ past) legal apart d reported =
-    let met = report_parts D past e legal.1 in
-    (met.ended, not-true (is_decided D past)
-    (subst (λ (b : Bool). (if b then not (is_last_begun past) else not (is_decided D past)) ≡ true) apart met.wanted))
+    let met = report_parts D past e legal.1 in (
+      met.ended,
+      not-true (is_decided D past)
+          (subst (λ (b : Bool). (if b then not (is_last_begun past) else not (is_decided D past)) ≡ true) apart met.wanted),
+    )
 reported_undecided D (Pass k ∷ past) legal apart d reported = absurd (false≢true reported)
 reported_undecided D (Copy p ∷ past) legal apart d reported =
     absurd (both_ways (is_no_pass_open D past) (open_copy D past p (copy_parts D past p legal.1).next) (reported_undecided D past legal.2 apart d reported).0)

@@ -1,5 +1,5 @@
 -- Delivered requests whose jobs pass a test, before an entry and after it.
-use Rattle.std.proofs.Common.{◌≡◌, ℕ, ◌==◌, Bool, true, false, not, ◌&&◌, ◌||◌, if◌then◌else◌, List, [], ◌∷◌, ◌++◌, refl, ap, ◌∙◌}
+use Rattle.std.proofs.Common.{◌≡◌, ℕ, ◌==◌, Bool, true, false, not, ◌&&◌, ◌||◌, if◌then◌else◌, List, [], ◌∷◌, refl, ◌∙◌}
 use Rattle.std.proofs.lemmas.Bool.{or_from, or_parts, and_left, and_right, not-true, false≢true}
 use Rattle.std.proofs.lemmas.List.Folds.{list_any-append}
 use Rattle.vfm_types.specs.Outstanding.{Outstanding, issue_if, deliver_if, complete_if, is_undelivered, outstanding_job_or_zero}

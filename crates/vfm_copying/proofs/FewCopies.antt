@@ -1,18 +1,20 @@
 -- How often pages are copied and blocks read: at most once in each pass.
-use Rattle.std.proofs.Common.{◌≡◌, ℕ, zero, suc, ◌+◌, ◌*◌, ◌<◌, ◌≤◌, ◌==◌, Bool, true, false, not, ◌&&◌, ◌||◌, if◌then◌else◌, List, [], ◌∷◌, nat_lt, Option, Some, None, is_none, refl, ap, sym, ◌∙◌, subst, arith, ⊎_elim, eqb-true, eq-eqb, ltb-true}
-use Rattle.std.proofs.lemmas.Bool.{and_parts, or_parts, and_from, and_right, ne_eqb, not-true, not_from_false, false≢true}
+use Rattle.std.proofs.Common.{◌≡◌, ℕ, ◌+◌, ◌*◌, ◌<◌, ◌≤◌, ◌==◌, Bool, true, false, not, ◌&&◌, ◌||◌, if◌then◌else◌, List, [], ◌∷◌, nat_lt, refl, ap, sym, subst, arith, eqb-true, eq-eqb, ltb-true, mul-le-mul_right}
+use Rattle.std.proofs.lemmas.Bool.{and_parts, and_right, ne_eqb, false≢true}
 use Rattle.vfm_types.specs.declared.desc.Desc.{Desc}
 use Rattle.vfm_types.specs.declared.entry.Entry.{Entry}
 use Rattle.vfm_types.specs.declared.entry.Entry.TheVariants.{Pass, Copy, Block}
 use Rattle.vfm_types.specs.Desc.{device_count, shape_at, block_count}
 use Rattle.vfm_types.specs.Phases.{pass_count}
-use Rattle.vfm_types.specs.Marks.{is_in_set, is_copied, set_size, next_copy}
-use Rattle.vfm_types.specs.Blocks.{takes_part, blocks_read, was_dry, has_part, next_part}
+use Rattle.vfm_types.specs.Marks.{is_in_set, is_copied, set_size}
+use Rattle.vfm_types.specs.Blocks.{takes_part, blocks_read, was_dry, has_part}
 use Rattle.vfm_base.specs.Least.{count_below}
 use Rattle.vfm_plain.specs.Legal.{IsLegal}
 use Rattle.vfm_laws.proofs.Rising.{by_bool}
 use Rattle.vfm_copying.specs.Counts.{copy_count, pages_copied, reading_count}
-use Rattle.vfm_copying.specs.Stale.{is_left_to_copy}
+use Rattle.vfm_laws.proofs.Counts.{passes_in_all}
+use Rattle.vfm_copying.specs.Stale.{is_left_to_copy, is_block_stale}
+use Rattle.vfm_copying.proofs.LastBlocks.{next_stale}
 use Rattle.vfm_copying.proofs.Tests.{least_passes, count_within, count_same, count_zero, count_cleared}
 use Rattle.vfm_copying.proofs.Conditions.{copy_parts, block_parts}
 
@@ -153,3 +155,22 @@ few_blocks_in_pass D past d legal = (few_readings_of D past legal d).newest
 
 pub few_readings : (D : Desc) (past : List Entry) (d : ℕ) → IsLegal D past → reading_count d past ≤ pass_count past * block_count (shape_at D d)
 few_readings D past d legal = (few_readings_of D past legal d).all
+
+-- ---- as the laws have it
+
+pub copy_left : (D : Desc) (past : List Entry) (p : ℕ) → IsLegal D (Copy p ∷ past) → is_left_to_copy D p past ≡ true
+copy_left D past p legal = (least_passes D.pages (λ q. is_left_to_copy D q past) p (copy_parts D past p legal.1).next).0
+
+pub reading_stale : (D : Desc) (past : List Entry) (d b : ℕ) → IsLegal D (Block d b ∷ past) → is_block_stale D d b past ≡ true
+reading_stale D past d b legal = (next_stale D past d b (block_parts D past d b legal.1).next).0
+
+within_most : (count passes rounds n : ℕ) → count ≤ passes * n → passes ≤ rounds + 1 → count ≤ (rounds + 1) * n
+within_most count passes rounds n all few =
+    let more : passes * n ≤ (rounds + 1) * n = mul-le-mul_right n few in omega arith
+
+pub most_copies : (D : Desc) (past : List Entry) → IsLegal D past → copy_count past ≤ (D.rounds + 1) * D.pages
+most_copies D past legal = within_most (copy_count past) (pass_count past) D.rounds D.pages (few_copies D past legal) (passes_in_all D past legal)
+
+pub most_readings : (D : Desc) (past : List Entry) (d : ℕ) → IsLegal D past → reading_count d past ≤ (D.rounds + 1) * block_count (shape_at D d)
+most_readings D past d legal =
+    within_most (reading_count d past) (pass_count past) D.rounds (block_count (shape_at D d)) (few_readings D past d legal) (passes_in_all D past legal)

@@ -1,19 +1,19 @@
 -- A page of which no set, no log, no report and no request on the bus tells is as its last copy took it.
 use Rattle.std.proofs.Common.{◌≡◌, ℕ, ◌+◌, ◌<◌, ◌==◌, Bool, true, false, not, ◌&&◌, ◌||◌, if◌then◌else◌, List, [], ◌∷◌, nat_lt, Option, Some, None, refl, ap, sym, ◌∙◌, subst, arith, ltb-true, lt-ltb, eqb-true, eq-eqb, is_none}
-use Rattle.std.proofs.lemmas.Bool.{eqb-false, or_from, or_parts, and_left, and_right, and_cases, and_from, and_parts, or_left, false≢true, true≢false, true_from_ne_false, both_ways}
+use Rattle.std.proofs.lemmas.Bool.{eqb-false, or_parts, and_from, and_parts, false≢true, true_from_ne_false, both_ways}
 use Rattle.vfm_types.specs.declared.desc.Desc.{Desc}
 use Rattle.vfm_types.specs.declared.entry.Entry.{Entry}
 use Rattle.vfm_types.specs.declared.entry.Entry.TheVariants.{Issue, Deliver, Complete, Report, Pass, Copy, Begin}
 use Rattle.vfm_types.specs.Desc.{device_count, job_at}
-use Rattle.vfm_types.specs.Machine.{Machine, device_of, with_device}
-use Rattle.vfm_types.specs.Requests.{taken, job_or_zero, job_of, do_request}
+use Rattle.vfm_types.specs.Machine.{device_of, with_device}
+use Rattle.vfm_types.specs.Requests.{taken, job_or_zero, job_of}
 use Rattle.vfm_types.specs.Deliveries.{machine_of, page_bytes}
 use Rattle.vfm_types.specs.Phases.{is_begun, pass_count}
-use Rattle.vfm_types.specs.Outstanding.{outstanding_of, issue_if, deliver_if, complete_if, is_undelivered, outstanding_job_or_zero}
+use Rattle.vfm_types.specs.Outstanding.{outstanding_of, deliver_if, complete_if, is_undelivered}
 use Rattle.vfm_types.specs.Marks.{writes_page, outstanding_job, is_marked, was_reported, has_reported, is_in_set, is_copied, next_copy}
 use Rattle.vfm_types.specs.Blocks.{next_part, is_no_pass_open}
 use Rattle.vfm_types.specs.Valid.{IsValid}
-use Rattle.vfm_base.specs.Least.{any_below, least_below}
+use Rattle.vfm_base.specs.Least.{any_below}
 use Rattle.vfm_plain.specs.Legal.{IsLegal}
 use Rattle.vfm_laws.proofs.Rising.{by_bool}
 use Rattle.vfm_laws.proofs.Conditions.{deliver_met}

@@ -1,7 +1,7 @@
 -- The last pass: at its end each block was read last as it stands at the joint stop.
-use Rattle.std.proofs.Common.{◌≡◌, ℕ, suc, ◌+◌, ◌<◌, ◌≤◌, ◌==◌, Bool, true, false, not, ◌&&◌, ◌||◌, if◌then◌else◌, List, [], ◌∷◌, nat_lt, Option, Some, None, is_none, refl, ap, sym, ◌∙◌, subst, arith, ◌⊎◌, inl, inr, ⊎_elim, eqb-true, eq-eqb, ltb-false}
+use Rattle.std.proofs.Common.{◌≡◌, ℕ, ◌+◌, ◌<◌, ◌≤◌, ◌==◌, Bool, true, false, not, ◌&&◌, ◌||◌, if◌then◌else◌, List, [], ◌∷◌, nat_lt, Option, Some, None, is_none, refl, ap, sym, ◌∙◌, subst, arith, ⊎_elim, eqb-true, eq-eqb, ltb-false}
 use Rattle.std.specs.Option.{option_or}
-use Rattle.std.proofs.lemmas.Bool.{and_parts, and_cases, or_parts, or_from, or_left, or_right, ne_eqb, not-false, true_from_ne_false, not-true, false≢true, true≢false, both_ways}
+use Rattle.std.proofs.lemmas.Bool.{and_parts, and_cases, or_from, or_left, or_right, ne_eqb, not-false, false≢true, true≢false, both_ways}
 use Rattle.vfm_types.specs.declared.desc.Desc.{Desc}
 use Rattle.vfm_types.specs.declared.entry.Entry.{Entry}
 use Rattle.vfm_types.specs.declared.entry.Entry.TheVariants.{Deliver, Pass, Copy, Block, Dry, Joint, Abort, Resume}
@@ -9,7 +9,7 @@ use Rattle.vfm_types.specs.declared.state.MigState.TheVariants.{PreCopy}
 use Rattle.vfm_types.specs.Desc.{device_count, shape_at, block_count}
 use Rattle.vfm_types.specs.Paths.{same_state}
 use Rattle.vfm_types.specs.Machine.{Machine}
-use Rattle.vfm_types.specs.Deliveries.{machine_of, block_bytes, joint_machine}
+use Rattle.vfm_types.specs.Deliveries.{block_bytes, joint_machine}
 use Rattle.vfm_types.specs.Phases.{is_joint, is_aborted, is_resumed, is_last_begun}
 use Rattle.vfm_types.specs.Arcs.{state_of}
 use Rattle.vfm_types.specs.Marks.{next_copy}
@@ -30,7 +30,7 @@ abbrev blocks_of : Desc → ℕ → ℕ
 blocks_of D d = block_count (shape_at D d)
 
 -- the block that is read next is stale
-next_stale : (D : Desc) (past : List Entry) (d b : ℕ) → next_block D d past ≡ Some b → (is_block_stale D d b past ≡ true) × (b < blocks_of D d)
+pub next_stale : (D : Desc) (past : List Entry) (d b : ℕ) → next_block D d past ≡ Some b → (is_block_stale D d b past ≡ true) × (b < blocks_of D d)
 next_stale D past d b next = at (least_below (blocks_of D d) (λ k. is_unread d k past)) refl next
   where
     at : (o : Option ℕ) → least_below (blocks_of D d) (λ k. is_unread d k past) ≡ o
@@ -172,3 +172,7 @@ sent_blocks D valid (Dry e ∷ past) legal last ended d b inside_d inside_b =
     let moving = (dry_parts D past e legal.1).moving in ended_read D valid (Dry e ∷ past) legal last ended moving.aborted moving.resumed d b inside_d inside_b
 sent_blocks D valid (Joint ∷ past) legal last ended d b inside_d inside_b = absurd (both_ways (is_joint past) (joint_parts D past legal.1).1 (last_joint past last))
 sent_blocks D valid (entry ∷ past) legal last ended d b inside_d inside_b = sent_blocks D valid past legal.2 last ended d b inside_d inside_b
+
+pub read_blocks : (D : Desc) (past : List Entry) (d b : ℕ) → IsValid D → IsLegal D past → is_last_begun past ≡ true → is_no_pass_open D past ≡ true
+    → d < device_count D → b < block_count (shape_at D d) → last_reading D d b past ≡ Some (block_bytes (joint_machine D past) d b)
+read_blocks D past d b valid legal last ended inside_d inside_b = sent_blocks D valid past legal last ended d b inside_d inside_b

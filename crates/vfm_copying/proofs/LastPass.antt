@@ -1,5 +1,5 @@
 -- The last pass: at its end each page was copied last as it stands at the joint stop.
-use Rattle.std.proofs.Common.{◌≡◌, ℕ, suc, ◌+◌, ◌<◌, ◌≤◌, ◌==◌, Bool, true, false, not, ◌&&◌, ◌||◌, if◌then◌else◌, List, [], ◌∷◌, nat_le, Option, Some, None, is_none, refl, ap, sym, ◌∙◌, subst, arith, ⊎_elim, ltb-true, leb-true}
+use Rattle.std.proofs.Common.{◌≡◌, ℕ, ◌+◌, ◌<◌, ◌≤◌, ◌==◌, true, false, not, ◌&&◌, ◌||◌, if◌then◌else◌, List, [], ◌∷◌, nat_le, Some, is_none, refl, ap, sym, ◌∙◌, arith, ⊎_elim, ltb-true, leb-true}
 use Rattle.std.proofs.lemmas.Bool.{or_cases, or_right, false≢true, true≢false, both_ways, false_from_ne_true}
 use Rattle.vfm_types.specs.declared.desc.Desc.{Desc}
 use Rattle.vfm_types.specs.declared.entry.Entry.{Entry}
@@ -9,23 +9,22 @@ use Rattle.vfm_types.specs.Deliveries.{machine_of, page_bytes, joint_machine}
 use Rattle.vfm_types.specs.Machine.{Machine}
 use Rattle.vfm_types.specs.Phases.{is_joint, is_aborted, is_resumed, is_last_begun, pass_count}
 use Rattle.vfm_types.specs.Arcs.{state_of, hold_of, is_stopped}
-use Rattle.vfm_types.specs.Outstanding.{Outstanding, outstanding_of, is_undelivered, is_arrived}
+use Rattle.vfm_types.specs.Outstanding.{is_undelivered, is_arrived}
 use Rattle.vfm_types.specs.Marks.{is_marked, was_reported, has_reported, is_in_set, is_copied}
 use Rattle.vfm_types.specs.Blocks.{is_no_pass_open}
 use Rattle.vfm_types.specs.Words.{is_decided}
 use Rattle.vfm_types.specs.Valid.{IsValid}
 use Rattle.vfm_base.specs.Least.{all_below}
-use Rattle.vfm_plain.specs.Rules.{fault_of}
 use Rattle.vfm_plain.specs.Legal.{IsLegal}
 use Rattle.vfm_laws.proofs.Rising.{by_bool}
 use Rattle.vfm_laws.proofs.Below.{all_below_at}
 use Rattle.vfm_laws.proofs.Conditions.{deliver_met, complete_met, joint_met}
 use Rattle.vfm_laws.proofs.StateLaws.{joint_nothing}
 use Rattle.vfm_copying.specs.Copies.{last_copy}
-use Rattle.vfm_copying.specs.Stale.{is_left_to_copy, has_delivered, job_writes_page, is_written_unseen}
+use Rattle.vfm_copying.specs.Stale.{is_left_to_copy, has_delivered, job_writes_page}
 use Rattle.vfm_copying.proofs.Conditions.{IsOn, pass_parts, copy_parts, block_parts, dry_parts, joint_parts}
 use Rattle.vfm_copying.proofs.KnownPages.{IsFresh, none_left, unset, not_first, fresh_copied}
-use Rattle.vfm_copying.proofs.Decided.{is_halting, reported_undecided, halting_decided}
+use Rattle.vfm_copying.proofs.Decided.{reported_undecided, halting_decided}
 
 -- the move has come to the joint stop, and stands there
 pub record IsStanding (past : List Entry) : Type 0 where
@@ -162,3 +161,15 @@ sent_pages D valid (Dry e ∷ past) legal last ended q inside =
     let moving = (dry_parts D past e legal.1).moving in ended_copied D valid (Dry e ∷ past) legal last ended moving.aborted moving.resumed q inside
 sent_pages D valid (Joint ∷ past) legal last ended q inside = absurd (both_ways (is_joint past) (joint_parts D past legal.1).1 (last_joint past last))
 sent_pages D valid (entry ∷ past) legal last ended q inside = sent_pages D valid past legal.2 last ended q inside
+
+-- the same, as the laws have it
+pub copied_pages : (D : Desc) (past : List Entry) (p : ℕ) → IsValid D → IsLegal D past → is_last_begun past ≡ true → is_no_pass_open D past ≡ true
+    → p < D.pages → last_copy D p past ≡ Some (page_bytes (joint_machine D past) p)
+copied_pages D past p valid legal last ended inside = sent_pages D valid past legal last ended p inside
+
+pub void_reports : (D : Desc) (past : List Entry) (d : ℕ) → IsValid D → IsLegal D (Joint ∷ past) → has_reported d past ≡ false
+void_reports D past d valid legal = joint_unreported D valid past legal d
+
+pub standing_machine : (D : Desc) (past : List Entry) → IsValid D → IsLegal D past → is_joint past ≡ true → is_aborted past ≡ false → is_resumed past ≡ false
+    → machine_of D past ≡ joint_machine D past
+standing_machine D past valid legal joint going here = joint_kept D valid past legal joint going here

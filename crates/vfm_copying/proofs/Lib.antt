@@ -9,3 +9,5 @@ pub mod Decided
 pub mod LastPass
 pub mod LastBlocks
 pub mod FewCopies
+pub mod AllSent
+pub mod RunsValid

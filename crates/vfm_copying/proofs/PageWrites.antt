@@ -1,5 +1,5 @@
 -- A job that doesn't write a page leaves its bytes.
-use Rattle.std.proofs.Common.{◌≡◌, ℕ, ◌==◌, false, if◌then◌else◌, List, [], length, take, refl, sym}
+use Rattle.std.proofs.Common.{◌≡◌, ℕ, false, if◌then◌else◌, List, [], length, take, refl, sym}
 use Rattle.std.proofs.lemmas.Bool.{eqb-false}
 use Rattle.std.proofs.lemmas.List.{get_or-set_other}
 use Rattle.std.specs.Int.{w64, from_le_bytes}

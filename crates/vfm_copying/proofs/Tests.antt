@@ -1,10 +1,10 @@
 -- Tests over the numbers below a bound: the least that passes, and how many do.
-use Rattle.std.proofs.Common.{◌≡◌, ℕ, zero, suc, ◌+◌, ◌<◌, ◌≤◌, Bool, true, false, if◌then◌else◌, Option, Some, None, refl, sym, ap, ◌∙◌, subst, arith, ⊎_elim}
-use Rattle.std.proofs.lemmas.Bool.{and_parts, or_parts, cases_lt, cases_eq, false≢true, true≢false}
+use Rattle.std.proofs.Common.{◌≡◌, ℕ, zero, suc, ◌+◌, ◌<◌, ◌≤◌, Bool, true, false, if◌then◌else◌, Option, Some, None, refl, sym, ap, subst, arith, ⊎_elim}
+use Rattle.std.proofs.lemmas.Bool.{or_parts, cases_lt, cases_eq, false≢true}
 use Rattle.vfm_base.specs.Least.{any_below, count_below, least_from, least_below}
 use Rattle.vfm_plain.specs.Condition.{is_exactly}
 use Rattle.vfm_laws.proofs.Rising.{by_bool}
-use Rattle.std.proofs.Common.{◌==◌, eqb-true}
+use Rattle.std.proofs.Common.{eqb-true}
 
 -- where none of the numbers below n passes, each fails
 pub any_below_none : (n : ℕ) (test : ℕ → Bool) (k : ℕ) → any_below n test ≡ false → k < n → test k ≡ false
