@@ -1,1 +1,3 @@
--- lemmas
+-- The lemmas of this crate.
+pub mod Chunks
+pub mod ClosedRecords
