@@ -1,3 +1,4 @@
 -- The lemmas of this crate.
 pub mod LastRecords
 pub mod LoadedJoint
+pub mod Growth

@@ -1,3 +1,4 @@
 -- The lemmas of this crate.
 pub mod Chunks
 pub mod ClosedRecords
+pub mod Grown
