@@ -2,3 +2,4 @@
 pub mod Chunks
 pub mod ClosedRecords
 pub mod Grown
+pub mod Numbered

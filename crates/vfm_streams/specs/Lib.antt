@@ -4,3 +4,4 @@ pub mod Whole
 pub mod Loaded
 pub mod Judged
 pub mod Verdict
+pub mod Brought
