@@ -3,3 +3,6 @@ pub mod Chunks
 pub mod ClosedRecords
 pub mod Grown
 pub mod Numbered
+pub mod Gaps
+pub mod Standing
+pub mod Streams
