@@ -16,7 +16,7 @@ use Rattle.vfm_copying.specs.Lost.{are_taken, is_page_sent, is_block_sent, is_al
 use Rattle.vfm_copying.proofs.LastPass.{copied_pages}
 use Rattle.vfm_copying.proofs.LastBlocks.{read_blocks}
 
-same_itself : (bytes : List ℕ) → pointwise nat_eq bytes bytes ≡ true
+pub same_itself : (bytes : List ℕ) → pointwise nat_eq bytes bytes ≡ true
 same_itself [] = refl
 same_itself (byte ∷ bytes) = and_from (nat_eq byte byte) (pointwise nat_eq bytes bytes) (eq-eqb byte byte refl) (same_itself bytes)
 
@@ -24,7 +24,7 @@ taken_is : (o : Option (List ℕ)) (bytes : List ℕ) → o ≡ Some bytes → a
 taken_is o bytes is = ap (λ (x : Option (List ℕ)). are_taken x bytes) is ∙ same_itself bytes
 
 -- what each number below n passes, all do
-all_from : (n : ℕ) (test : ℕ → Bool) → ((k : ℕ) → k < n → test k ≡ true) → all_below n test ≡ true
+pub all_from : (n : ℕ) (test : ℕ → Bool) → ((k : ℕ) → k < n → test k ≡ true) → all_below n test ≡ true
 all_from zero test each = refl
 all_from (suc n) test each = and_from (all_below n test) (test n) (all_from n test (λ k h. each k (omega arith))) (each n (omega arith))
 

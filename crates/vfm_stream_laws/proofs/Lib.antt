@@ -2,3 +2,7 @@
 pub mod LastRecords
 pub mod LoadedJoint
 pub mod Growth
+pub mod FitRecords
+pub mod FitPending
+pub mod FitClosed
+pub mod JointVerdict

@@ -34,7 +34,7 @@ joint_sound D valid (Joint ∷ past) legal = machine_sound D valid past legal.2
 joint_sound D valid (entry ∷ past) legal = joint_sound D valid past legal.2
 
 -- one record has room for some
-some_pairs : 0 < pairs_of_a_record
+pub some_pairs : 0 < pairs_of_a_record
 unfolding pairs_of_a_record
 some_pairs = omega arith
 
@@ -68,25 +68,35 @@ module _ (D : Desc) (past : List Entry) (valid : IsValid D) (legal : IsLegal D p
       cond-true (is_last_begun past && is_no_pass_open D past) (with_all_closed D m (sent_in_passes D past)) (sent_in_passes D past)
       (and_from (is_last_begun past) (is_no_pass_open D past) last ended)
 
+  pub page_came : (p : ℕ) → p < D.pages → last_page p (records_of 0 (sent D past)) ≡ Some (page_bytes (joint_machine D past) p)
+  page_came p inside =
+      ap (λ (all : List Sent). last_page p (records_of 0 all)) sent_closed ∙ ap (last_page p) (closed_memory D m (sent_in_passes D past))
+      ∙ page_sent D past p ∙ copied_pages D past p valid legal last ended inside
+
+  pub memory_is : records_of 0 (sent D past) ≡ Config (shape_digest D 0) ∷ records_of 0 (sent_in_passes D past)
+  memory_is = ap (records_of 0) sent_closed ∙ closed_memory D m (sent_in_passes D past)
+
   page_is : (p : ℕ) → p < D.pages → page_bytes m p ≡ unwrap_or (last_page p (records_of 0 (sent D past))) []
   page_is p inside =
-      sym (ap (λ (all : List Sent). unwrap_or (last_page p (records_of 0 all)) []) sent_closed
-      ∙ ap (λ (rs : List Record). unwrap_or (last_page p rs) []) (closed_memory D m (sent_in_passes D past))
-      ∙ ap (λ (o : Option (List ℕ)). unwrap_or o []) (page_sent D past p ∙ copied_pages D past p valid legal last ended inside))
+      sym (ap (λ (o : Option (List ℕ)). unwrap_or o []) (page_came p inside))
 
   pages_are : m.pages ≡ map (λ p. unwrap_or (last_page p (records_of 0 (sent D past))) []) (range_with_len 0 D.pages)
   pages_are =
       fill_by_all (λ p. unwrap_or (last_page p (records_of 0 (sent D past))) []) m.pages D.pages [] (joint_sound D valid past legal).shape.pages page_is
 
-  stream_is : (d : ℕ) → d < device_count D → records_of (suc d) (sent D past) ≡ closed_records D d (device_of m d) (records_of (suc d) (sent_in_passes D past))
+  pub stream_is : (d : ℕ) → d < device_count D → records_of (suc d) (sent D past) ≡ closed_records D d (device_of m d) (records_of (suc d) (sent_in_passes D past))
   stream_is d inside = ap (records_of (suc d)) sent_closed ∙ closed_stream D m d (sent_in_passes D past) inside
+
+  pub block_came : (d b : ℕ) → d < device_count D → b < block_count (shape_at D d)
+      → last_block b (records_of (suc d) (sent D past)) ≡ Some (block_bytes (joint_machine D past) d b)
+  block_came d b inside_d inside_b =
+      ap (last_block b) (stream_is d inside_d) ∙ closed_block D d b (device_of m d) (records_of (suc d) (sent_in_passes D past)) ∙ block_sent D past d b
+      ∙ read_blocks D past d b valid legal last ended inside_d inside_b
 
   block_is : (d b : ℕ) → d < device_count D → b < block_count (shape_at D d)
       → unwrap_or (last_block b (records_of (suc d) (sent D past))) [] ≡ block_bytes m d b
   block_is d b inside_d inside_b =
-      ap (λ (rs : List Record). unwrap_or (last_block b rs) []) (stream_is d inside_d)
-      ∙ ap (λ (o : Option (List ℕ)). unwrap_or o [])
-      (closed_block D d b (device_of m d) (records_of (suc d) (sent_in_passes D past)) ∙ block_sent D past d b ∙ read_blocks D past d b valid legal last ended inside_d inside_b)
+      ap (λ (o : Option (List ℕ)). unwrap_or o []) (block_came d b inside_d inside_b)
 
   bar_is : (d : ℕ) → d < device_count D → loaded_bar D d (records_of (suc d) (sent D past)) ≡ (device_of m d).bar
   bar_is d inside =
@@ -103,18 +113,20 @@ module _ (D : Desc) (past : List Entry) (valid : IsValid D) (legal : IsLegal D p
           → flat_map (λ b. unwrap_or (last_block b records) []) (range_with_len 0 n) ≡ flat_map (λ b. block_bytes m e b) (range_with_len 0 n)
       blocks_as E e records n each = same_blocks (λ b. unwrap_or (last_block b records) []) (λ b. block_bytes m e b) 0 n (λ b low high. each b (omega arith))
 
+  pub pairs_came : (d : ℕ) → d < device_count D → all_pairs (records_of (suc d) (sent D past)) ≡ (device_of (joint_machine D past) d).pending
+  pairs_came d inside =
+      let pending = (device_of m d).pending in
+      ap all_pairs (stream_is d inside) ∙ closed_pairs D d (device_of m d) (records_of (suc d) (sent_in_passes D past))
+      ∙ ap (λ (front : List (ℕ × ℕ)). front ++ joined (chunks (length pending) pairs_of_a_record pending)) (no_pairs D past d)
+      ∙ joined_chunks (length pending) pairs_of_a_record pending some_pairs (omega arith)
+
   device_is : (d : ℕ) → d < device_count D → device_of m d ≡ loaded_device D d (records_of (suc d) (sent D past))
   device_is d inside =
       let older = records_of (suc d) (sent_in_passes D past) in
       let dev = device_of m d in
-      let pending = (device_of m d).pending in
       let engine : engine_device (records_of (suc d) (sent D past)) ≡ bare dev = ap engine_device (stream_is d inside) ∙ closed_engine D d dev older in
-      let pairs : all_pairs (records_of (suc d) (sent D past)) ≡ pending =
-      ap all_pairs (stream_is d inside) ∙ closed_pairs D d dev older
-      ∙ ap (λ (front : List (ℕ × ℕ)). front ++ joined (chunks (length pending) pairs_of_a_record pending)) (no_pairs D past d)
-      ∙ joined_chunks (length pending) pairs_of_a_record pending some_pairs (omega arith) in
       put_together dev (engine_device (records_of (suc d) (sent D past))) (loaded_bar D d (records_of (suc d) (sent D past)))
-      (all_pairs (records_of (suc d) (sent D past))) engine (bar_is d inside) pairs
+      (all_pairs (records_of (suc d) (sent D past))) engine (bar_is d inside) (pairs_came d inside)
 
   devices_are : m.devices ≡ map (λ d. loaded_device D d (records_of (suc d) (sent D past))) (range_with_len 0 (device_count D))
   devices_are =

@@ -108,3 +108,17 @@ closed_engine D d device older = onto_engine (chunks (length device.pending) pai
 pub closed_pairs : (D : Desc) (d : ℕ) (device : DeviceState) (older : List Record)
     → all_pairs (closed_records D d device older) ≡ all_pairs older ++ joined (chunks (length device.pending) pairs_of_a_record device.pending)
 closed_pairs D d device older = onto_pairs (chunks (length device.pending) pairs_of_a_record device.pending) (engine_record device ∷ older)
+
+onto_counted : (pieces : List (List (ℕ × ℕ))) (older : List Record) → has_engine (onto (map Pending pieces) older) ≡ has_engine older
+onto_counted [] older = refl
+onto_counted (piece ∷ pieces) older = onto_counted pieces (Pending piece ∷ older)
+
+onto_announced : (pieces : List (List (ℕ × ℕ))) (older : List Record) → engine_pend (onto (map Pending pieces) older) ≡ engine_pend older
+onto_announced [] older = refl
+onto_announced (piece ∷ pieces) older = onto_announced pieces (Pending piece ∷ older)
+
+pub closed_counted : (D : Desc) (d : ℕ) (device : DeviceState) (older : List Record) → has_engine (closed_records D d device older) ≡ true
+closed_counted D d device older = onto_counted (chunks (length device.pending) pairs_of_a_record device.pending) (engine_record device ∷ older)
+
+pub closed_announced : (D : Desc) (d : ℕ) (device : DeviceState) (older : List Record) → engine_pend (closed_records D d device older) ≡ length device.pending
+closed_announced D d device older = onto_announced (chunks (length device.pending) pairs_of_a_record device.pending) (engine_record device ∷ older)
