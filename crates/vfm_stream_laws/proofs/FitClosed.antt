@@ -22,13 +22,14 @@ use Rattle.vfm_record.specs.Shape.{shape_digest, shape_text}
 use Rattle.vfm_streams.specs.Sent.{Sent, sent, records_of, sent_in_passes, chunks, pairs_of_a_record, engine_record}
 use Rattle.vfm_streams.specs.Packets.{kind_of}
 use Rattle.vfm_streams.specs.Whole.{is_config}
+use Rattle.vfm_streams.specs.Judged.{AllFit}
 use Rattle.vfm_streams.specs.Loaded.{all_pairs, has_engine}
 use Rattle.vfm_streams.proofs.Chunks.{joined, joined_chunks}
 use Rattle.vfm_streams.proofs.ClosedRecords.{onto, closed_records, closed_memory, closed_stream}
 use Rattle.vfm_streams.proofs.Streams.{IsClosed}
 use Rattle.vfm_stream_laws.proofs.LastRecords.{no_pairs}
 use Rattle.vfm_stream_laws.proofs.LoadedJoint.{joint_sound, sent_closed, some_pairs}
-use Rattle.vfm_stream_laws.proofs.FitRecords.{AllFit, PassesFit, fit_stand, shape_is, before_counts, memory_passes, device_passes}
+use Rattle.vfm_stream_laws.proofs.FitRecords.{PassesFit, fit_stand, shape_is, before_counts, memory_passes, device_passes}
 use Rattle.vfm_stream_laws.proofs.FitPending.{IsPiece, AllJobs, pieces_of, Behind, pieces_fit}
 
 -- the pending requests of a device at the joint stop have rising numbers
@@ -134,3 +135,16 @@ module _ (D : Desc) (past : List Entry) (valid : IsValid D) (legal : IsLegal D p
         data_ = pieces_data (chunks (length pending) pairs_of_a_record pending) (engine_record (device_of m d) ∷ older) (refl, (device_passes D valid past legal d).data_);
         stand = fit_stand D (suc d) (records_of (suc d) (sent D past)) (subst (AllFit D (suc d)) (sym is) (device_fits d inside));
       }
+
+  pub streams_fit : (s : ℕ) → s ≤ device_count D → AllFit D s (records_of s (sent D past))
+  streams_fit zero inside =
+      subst (AllFit D 0) (sym (ap (records_of 0) (sent_closed D past valid legal last ended) ∙ closed_memory D m (sent_in_passes D past)))
+      (config_fits D 0, refl, (memory_passes D valid past legal).fit)
+  streams_fit (suc d) inside =
+      subst (AllFit D (suc d)) (sym (ap (records_of (suc d)) (sent_closed D past valid legal last ended) ∙ closed_stream D m d (sent_in_passes D past) inside))
+      (device_fits d inside)
+
+-- the same, as the law has it
+pub all_fit : (D : Desc) (past : List Entry) (s : ℕ) → IsValid D → IsLegal D past → is_last_begun past ≡ true → is_no_pass_open D past ≡ true
+    → s ≤ device_count D → AllFit D s (records_of s (sent D past))
+all_fit D past s valid legal last ended inside = streams_fit D past valid legal last ended s inside

@@ -13,10 +13,10 @@ use Rattle.vfm_streams.specs.Sent.{chunks, pairs_of_a_record}
 use Rattle.vfm_streams.specs.Packets.{kind_of}
 use Rattle.vfm_streams.specs.Whole.{is_config}
 use Rattle.vfm_streams.specs.Loaded.{has_engine, engine_device, engine_pend, all_pairs}
-use Rattle.vfm_streams.specs.Judged.{number_after, pairs_fault, pending_fault, stand_fault}
+use Rattle.vfm_streams.specs.Judged.{AllFit, number_after, pairs_fault, pending_fault, stand_fault}
 use Rattle.vfm_streams.proofs.Chunks.{joined}
 use Rattle.vfm_streams.proofs.ClosedRecords.{onto}
-use Rattle.vfm_stream_laws.proofs.FitRecords.{AllFit, shape_is}
+use Rattle.vfm_stream_laws.proofs.FitRecords.{shape_is}
 
 -- a piece that one record can have
 abbrev pub IsPiece : List (ℕ × ℕ) → Type 0

@@ -20,14 +20,9 @@ use Rattle.vfm_streams.specs.Sent.{Sent, records_of, push, sent_in_passes}
 use Rattle.vfm_streams.specs.Packets.{kind_of}
 use Rattle.vfm_streams.specs.Whole.{is_config}
 use Rattle.vfm_streams.specs.Loaded.{has_engine}
-use Rattle.vfm_streams.specs.Judged.{stand_fault}
+use Rattle.vfm_streams.specs.Judged.{stand_fault, AllFit}
 use Rattle.vfm_streams.proofs.ClosedRecords.{pushed_same, pushed_other}
 use Rattle.vfm_streams.proofs.Standing.{AllStand}
-
--- each of these records, newest first, is one of the stream, and can stand behind the older ones
-abbrev pub AllFit : Desc → ℕ → List Record → Type 0
-AllFit D s [] = Unit {0}
-AllFit D s (r ∷ older) = IsRecordOf D s r × (stand_fault D s (kind_of r) older r ≡ None) × AllFit D s older
 
 pub fit_stand : (D : Desc) (s : ℕ) (records : List Record) → AllFit D s records → AllStand D s records
 fit_stand D s [] fit = tt

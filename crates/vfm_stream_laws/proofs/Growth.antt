@@ -1,6 +1,7 @@
 -- One more legal entry: what is sent goes on.
-use Rattle.std.proofs.Common.{◌≡◌, ℕ, suc, ◌==◌, ◌||◌, Bool, true, false, ◌&&◌, not, if◌then◌else◌, List, [], ◌∷◌, ◌++◌, refl, ap, sym, ◌∙◌}
+use Rattle.std.proofs.Common.{◌≡◌, ℕ, suc, ◌==◌, ◌||◌, Bool, true, false, ◌&&◌, not, if◌then◌else◌, List, [], ◌∷◌, ◌++◌, refl, ap, sym, ◌∙◌, append_assoc}
 use Rattle.std.proofs.lemmas.Bool.{and_parts, cond-false, not-true, both_ways, false≢true}
+use Rattle.std.proofs.lemmas.List.{append-nil}
 use Rattle.vfm_types.specs.declared.desc.Desc.{Desc}
 use Rattle.vfm_types.specs.declared.entry.Entry.{Entry}
 use Rattle.vfm_types.specs.declared.entry.Entry.TheVariants.{Pass, Copy as CopyOf, Block as BlockOf, Dry, Joint}
@@ -37,7 +38,7 @@ where_joint true last other is h = h
 where_joint false last other is h = absurd (false≢true is)
 
 -- once all is sent, no entry sends more
-closed_stays : (D : Desc) (past : List Entry) (entry : Entry) → IsLegal D (entry ∷ past) → is_last_begun past ≡ true → is_no_pass_open D past ≡ true
+pub closed_stays : (D : Desc) (past : List Entry) (entry : Entry) → IsLegal D (entry ∷ past) → is_last_begun past ≡ true → is_no_pass_open D past ≡ true
     → sent D (entry ∷ past) ≡ sent D past
 closed_stays D past (CopyOf p) legal last ended =
     absurd (both_ways (is_no_pass_open D past) (open_copy D past p (copy_parts D past p legal.1).next) ended)
@@ -70,3 +71,12 @@ pub share_grows : (D : Desc) (past : List Entry) (entry : Entry) (k : ℕ) → I
 share_grows D past entry k legal =
     let grown = sent_grows D past entry legal in
     (all_bytes (lane_packets D k grown.more), ap (λ (all : List Sent). all_bytes (lane_packets D k all)) grown.is ∙ lane_grows D k grown.more (sent D past))
+
+-- and the same for many entries more
+pub shares_grow : (D : Desc) (entries past : List Entry) (k : ℕ) → IsLegal D (entries ++ past)
+    → (more : List ℕ) × (share D (entries ++ past) k ≡ share D past k ++ more)
+shares_grow D [] past k legal = ([], sym (append-nil (share D past k)))
+shares_grow D (entry ∷ entries) past k legal =
+    let before = shares_grow D entries past k legal.2 in
+    let step = share_grows D (entries ++ past) entry k legal in
+    (before.0 ++ step.0, step.1 ∙ ap (λ (bytes : List ℕ). bytes ++ step.0) before.1 ∙ append_assoc (share D past k) before.0 step.0)

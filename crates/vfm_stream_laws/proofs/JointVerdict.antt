@@ -25,9 +25,10 @@ use Rattle.vfm_streams.specs.Whole.{StreamFault, ConfigDiffers, NotWhole, stream
 use Rattle.vfm_streams.specs.Loaded.{last_page, last_block, all_pairs, has_engine, engine_pend, loaded_device, loaded}
 use Rattle.vfm_streams.specs.Judged.{said, bad_record, digest_of, config_differs, engine_lacks, lacks, load_fault, stream_fault}
 use Rattle.vfm_streams.specs.Verdict.{Verdict, Refuses, Loads, stream_refusal, refused_channel, refused_stream, brought, loaded_from, refuses_or, verdict_on}
-use Rattle.vfm_streams.specs.Brought.{BringsSent}
+use Rattle.vfm_streams.specs.Brought.{BringsSent, lane_readings}
 use Rattle.vfm_streams.proofs.Numbered.{numbered_sent}
 use Rattle.vfm_streams.proofs.Gaps.{all_fail}
+use Rattle.vfm_streams.proofs.LanesJoin.{lanes_bring, lanes_unrefused}
 use Rattle.vfm_streams.proofs.ClosedRecords.{closed_records, closed_counted, closed_announced}
 use Rattle.vfm_streams.proofs.Streams.{IsClosed, stream_whole, stream_good, stream_says}
 use Rattle.vfm_stream_laws.proofs.LoadedJoint.{page_came, memory_is, stream_is, block_came, pairs_came, loaded_is}
@@ -131,3 +132,9 @@ brought_verdict D past limit readings valid legal last ended unrefused brings =
     ap (λ (o : Option Refusal). refuses_or (option_or o (refused_stream D (brought readings) 0 (device_count D + 1))) (loaded_from D (brought readings))) unrefused
     ∙ ap (λ (o : Option Refusal). refuses_or o (loaded_from D (brought readings))) (streams_good D past (brought readings) valid legal last ended brings)
     ∙ ap Loads (loads_joint D past (brought readings) valid legal last ended brings)
+
+pub own_verdict : (D : Desc) (past : List Entry) (limit : ℕ) → IsValid D → IsLegal D past → is_last_begun past ≡ true → is_no_pass_open D past ≡ true
+    → verdict_on D limit (lane_readings D (sent D past)) ≡ Loads (joint_machine D past)
+own_verdict D past limit valid legal last ended =
+    brought_verdict D past limit (lane_readings D (sent D past)) valid legal last ended (lanes_unrefused D (sent D past) limit)
+    (lanes_bring D (sent D past) valid.in_range.channels_low)

@@ -6,3 +6,4 @@ pub mod Numbered
 pub mod Gaps
 pub mod Standing
 pub mod Streams
+pub mod LanesJoin

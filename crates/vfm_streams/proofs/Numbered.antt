@@ -14,7 +14,7 @@ use Rattle.vfm_types.specs.Blocks.{is_no_pass_open}
 use Rattle.vfm_packet.specs.Packet.{Packet}
 use Rattle.vfm_record.specs.Record.{Record, Page, Block, Config}
 use Rattle.vfm_record.specs.Shape.{shape_digest}
-use Rattle.vfm_streams.specs.Sent.{Sent, records_of, push, push_all, pending_records, engine_record, with_device_closed, with_devices_closed, with_all_closed, sent_in_passes, sent}
+use Rattle.vfm_streams.specs.Sent.{Sent, IsNumbered, records_of, push, push_all, pending_records, engine_record, with_device_closed, with_devices_closed, with_all_closed, sent_in_passes, sent}
 use Rattle.vfm_streams.specs.Packets.{packet_of}
 use Rattle.vfm_streams.specs.Brought.{times_sent, IsOfSent}
 
@@ -22,11 +22,6 @@ use Rattle.vfm_streams.specs.Brought.{times_sent, IsOfSent}
 pub by_bool : (b : Bool) (P : Bool → Type 0) → (b ≡ true → P true) → (b ≡ false → P false) → P b
 by_bool true P yes_ no_ = yes_ refl
 by_bool false P yes_ no_ = no_ refl
-
--- each has as its index the number of those of its stream before it
-abbrev pub IsNumbered : List Sent → Type 0
-IsNumbered [] = Unit {0}
-IsNumbered (x ∷ all) = (x.index ≡ length (records_of x.stream all)) × IsNumbered all
 
 numbered_push : (s : ℕ) (r : Record) (all : List Sent) → IsNumbered all → IsNumbered (push s r all)
 numbered_push s r all numbered = (refl, numbered)

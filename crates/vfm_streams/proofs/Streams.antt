@@ -11,12 +11,12 @@ use Rattle.vfm_types.specs.declared.desc.Desc.{Desc}
 use Rattle.vfm_packet.specs.Packet.{Packet}
 use Rattle.vfm_record.specs.Record.{Record, Config}
 use Rattle.vfm_record.specs.Tests.{record_at}
-use Rattle.vfm_streams.specs.Sent.{Sent, records_of}
+use Rattle.vfm_streams.specs.Sent.{Sent, IsNumbered, records_of}
 use Rattle.vfm_streams.specs.Packets.{kind_of, packet_of}
 use Rattle.vfm_streams.specs.Brought.{IsOfSent, BringsSent}
 use Rattle.vfm_streams.specs.Whole.{stream_packets, is_config, gap_of, in_order}
 use Rattle.vfm_streams.specs.Judged.{bad_record, said}
-use Rattle.vfm_streams.proofs.Numbered.{by_bool, IsNumbered, sent_of, in_turn, records_are, count_is, times_below, times_above, turn_of}
+use Rattle.vfm_streams.proofs.Numbered.{by_bool, sent_of, in_turn, records_are, count_is, times_below, times_above, turn_of}
 use Rattle.vfm_streams.proofs.Gaps.{Only, IsWhole, no_gap, ordered}
 use Rattle.vfm_streams.proofs.Standing.{AllStand, says_of, none_bad, said_back}
 

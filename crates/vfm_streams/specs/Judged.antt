@@ -1,5 +1,5 @@
 -- Which records can stand in a stream, one behind another, and what is lacking at its end.
-use Rattle.std.specs.Prelude.{ℕ, zero, suc, ◌+◌, ◌*◌, ◌==◌, ◌&&◌, not, Bool, true, false, if◌then◌else◌, nat_lt, nat_le, nat_eq, List, [], ◌∷◌, length, map, reverse, Option, Some, None, is_none}
+use Rattle.std.specs.Prelude.{◌≡◌, ℕ, zero, suc, ◌+◌, ◌*◌, ◌==◌, ◌&&◌, not, Bool, true, false, if◌then◌else◌, nat_lt, nat_le, nat_eq, List, [], ◌∷◌, length, map, reverse, Option, Some, None, is_none}
 use Rattle.std.specs.Option.{option_or, option_map}
 use Rattle.std.specs.Cmp.Lexicographic.{pointwise}
 use Rattle.vfm_base.specs.Least.{least_below}
@@ -7,9 +7,10 @@ use Rattle.vfm_types.specs.declared.desc.Desc.{Desc}
 use Rattle.vfm_types.specs.Desc.{shape_at, block_count}
 use Rattle.vfm_packet.specs.declared.header.Kind.{Kind}
 use Rattle.vfm_packet.specs.Packet.{Packet}
-use Rattle.vfm_record.specs.Record.{Record, Page, Block, Engine, Pending, Config, shape_of_stream}
+use Rattle.vfm_record.specs.Record.{Record, Page, Block, Engine, Pending, Config, shape_of_stream, IsRecordOf}
 use Rattle.vfm_record.specs.Shape.{shape_digest}
 use Rattle.vfm_record.specs.Tests.{record_fault, record_at}
+use Rattle.vfm_streams.specs.Packets.{kind_of}
 use Rattle.vfm_streams.specs.Whole.{StreamFault, BadRecord, ConfigDiffers, NotWhole, is_config, in_order, gap_of}
 use Rattle.vfm_streams.specs.Loaded.{last_page, last_block, all_pairs, has_engine, engine_device, engine_pend}
 
@@ -52,6 +53,11 @@ inner_fault D s older (Config digest) = None
 -- the place at which a record is refused behind these, if it is
 abbrev pub stand_fault : Desc → ℕ → Kind → List Record → Record → Option ℕ
 stand_fault D s kind older r = if can_stand kind older r then inner_fault D s older r else Some 0
+
+-- each of these records, newest first, is one of the stream, and can stand behind the older ones
+abbrev pub AllFit : Desc → ℕ → List Record → Type 0
+AllFit D s [] = Unit {0}
+AllFit D s (r ∷ older) = IsRecordOf D s r × (stand_fault D s (kind_of r) older r ≡ None) × AllFit D s older
 
 -- the place at which a packet's payload is refused behind these records, if it is
 abbrev pub payload_fault : Desc → ℕ → List Record → Packet → Option ℕ

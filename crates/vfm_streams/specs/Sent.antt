@@ -1,6 +1,6 @@
 -- What a source sends, newest first: a page at each Copy, a block at each Block, and once the last pass has ended the
 -- records that close each stream. Stream 0 is memory, stream `d + 1` is device `d`.
-use Rattle.std.specs.Prelude.{ℕ, zero, suc, ◌==◌, ◌&&◌, if◌then◌else◌, List, [], ◌∷◌, length, map, take, drop}
+use Rattle.std.specs.Prelude.{◌≡◌, ℕ, zero, suc, ◌==◌, ◌&&◌, if◌then◌else◌, List, [], ◌∷◌, length, map, take, drop}
 use Rattle.vfm_types.specs.declared.entry.Entry.{Entry}
 use Rattle.vfm_types.specs.declared.entry.Entry.TheVariants.{Copy as CopyOf, Block as BlockOf}
 use Rattle.vfm_types.specs.declared.desc.Desc.{Desc}
@@ -26,6 +26,11 @@ records_of s (x ∷ sent) = if x.stream == s then x.says ∷ records_of s sent e
 -- one record more in a stream
 abbrev pub push : ℕ → Record → List Sent → List Sent
 push s r sent = record { stream = s; index = length (records_of s sent); says = r } ∷ sent
+
+-- each has as its index the number of those of its stream that were sent before it
+abbrev pub IsNumbered : List Sent → Type 0
+IsNumbered [] = Unit {0}
+IsNumbered (x ∷ sent) = (x.index ≡ length (records_of x.stream sent)) × IsNumbered sent
 
 -- several, in order
 abbrev pub push_all : ℕ → List Record → List Sent → List Sent
