@@ -39,7 +39,7 @@ joint_rising D valid [] legal d inside = ((keeps_queues D valid [] tt).1 d insid
 joint_rising D valid (Joint ∷ past) legal d inside = ((keeps_queues D valid past legal.2).1 d inside).rising
 joint_rising D valid (entry ∷ past) legal d inside = joint_rising D valid past legal.2 d inside
 
-digest_length : (D : Desc) (s : ℕ) → length (shape_digest D s) ≡ 32
+pub digest_length : (D : Desc) (s : ℕ) → length (shape_digest D s) ≡ 32
 unfolding shape_digest
 digest_length D s = length-sha256 (shape_text D s)
 

@@ -31,13 +31,13 @@ of_both D all [] second a b = b
 of_both D all (p ∷ first) second a b = (a.0, of_both D all first second a.1 b)
 
 -- one record more on its lane, or beside it
-lane_same : (D : Desc) (k : ℕ) (x : Sent) (all : List Sent) → (lane_of D x == k) ≡ true → lane_packets D k (x ∷ all) ≡ lane_packets D k all ++ packet_of D x ∷ []
+pub lane_same : (D : Desc) (k : ℕ) (x : Sent) (all : List Sent) → (lane_of D x == k) ≡ true → lane_packets D k (x ∷ all) ≡ lane_packets D k all ++ packet_of D x ∷ []
 lane_same D k x all same =
     ap (λ (xs : List Sent). map (packet_of D) (reverse xs)) (cond-true (lane_of D x == k) (x ∷ filter (λ y. lane_of D y == k) all) (filter (λ y. lane_of D y == k) all) same)
     ∙ ap (map (packet_of D)) (reverse_onto (filter (λ y. lane_of D y == k) all) x [])
     ∙ map-append (packet_of D) (reverse (filter (λ y. lane_of D y == k) all)) (x ∷ [])
 
-lane_other : (D : Desc) (k : ℕ) (x : Sent) (all : List Sent) → (lane_of D x == k) ≡ false → lane_packets D k (x ∷ all) ≡ lane_packets D k all
+pub lane_other : (D : Desc) (k : ℕ) (x : Sent) (all : List Sent) → (lane_of D x == k) ≡ false → lane_packets D k (x ∷ all) ≡ lane_packets D k all
 lane_other D k x all other =
     ap (λ (xs : List Sent). map (packet_of D) (reverse xs)) (cond-false (lane_of D x == k) (x ∷ filter (λ y. lane_of D y == k) all) (filter (λ y. lane_of D y == k) all) other)
 

@@ -7,3 +7,4 @@ pub mod Gaps
 pub mod Standing
 pub mod Streams
 pub mod LanesJoin
+pub mod Costs
