@@ -6,5 +6,5 @@ pub mod FitRecords
 pub mod FitPending
 pub mod FitClosed
 pub mod JointVerdict
-pub mod Sizes
+pub mod HowMuch
 pub mod SoundChannels

@@ -29,12 +29,12 @@ use Rattle.vfm_record.proofs.Writable.{page_limit}
 use Rattle.vfm_streams.specs.Sent.{Sent, sent, records_of, push, push_all, pending_records, engine_record, with_device_closed, with_devices_closed, with_all_closed, sent_in_passes}
 use Rattle.vfm_streams.specs.Packets.{kind_of, packet_of, lane_of, lane_packets, ended_share}
 use Rattle.vfm_streams.specs.Judged.{AllFit}
-use Rattle.vfm_streams.specs.Brought.{lane_reading, lane_readings}
-use Rattle.vfm_streams.specs.Verdict.{Verdict, Loads, Expects, verdict_on, verdict}
+use Rattle.vfm_streams.specs.Brought.{BringsSent, lane_reading, lane_readings}
+use Rattle.vfm_streams.specs.Verdict.{Verdict, Loads, Expects, refused_channel, brought, verdict_on, verdict}
 use Rattle.vfm_streams.proofs.LanesJoin.{lane_same, lane_other}
 use Rattle.vfm_stream_laws.proofs.FitClosed.{all_fit}
-use Rattle.vfm_stream_laws.proofs.JointVerdict.{own_verdict}
-use Rattle.vfm_stream_laws.proofs.Sizes.{few_indexes, short_share}
+use Rattle.vfm_stream_laws.proofs.JointVerdict.{brought_verdict, own_verdict}
+use Rattle.vfm_stream_laws.proofs.HowMuch.{few_indexes, short_share}
 
 -- ---- streams are those of memory and of devices
 
@@ -197,3 +197,23 @@ pub shares_verdict : (D : Desc) (past : List Entry) (e : Expect) → IsValid D �
 shares_verdict D past e valid legal last ended expects =
     ap (verdict_on D channel_limit) (all_read D past e 0 D.channels (λ k. share_reads D past e k valid legal last ended expects))
     ∙ own_verdict D past channel_limit valid legal last ended
+
+-- the verdict on bytes that bring what was sent
+pub bytes_verdict : (D : Desc) (past : List Entry) (e : Expect) (channels : List (List ℕ)) → IsValid D → IsLegal D past
+    → is_last_begun past ≡ true → is_no_pass_open D past ≡ true → refused_channel channel_limit 0 (map (reading_within channel_limit e) channels) ≡ None
+    → BringsSent D (sent D past) (brought (map (reading_within channel_limit e) channels)) → verdict D e channels ≡ Loads (joint_machine D past)
+bytes_verdict D past e channels valid legal last ended unrefused brings =
+    brought_verdict D past channel_limit (map (reading_within channel_limit e) channels) valid legal last ended unrefused brings
+
+pub streams_low : (D : Desc) (past : List Entry) → IsLegal D past → AllByRecursion (λ x. x.stream ≤ device_count D) (sent D past)
+streams_low D past legal = low_sent D past legal
+
+wider : (all : List Sent) → AllByRecursion (λ x. x.index < 83065) all → AllByRecursion (λ x. x.index < 2 ^ 32) all
+wider [] few = tt
+wider (x ∷ all) few = let low : x.index < 83065 = few.0 in (omega arith, wider all few.1)
+
+pub indexes_fit : (D : Desc) (past : List Entry) → IsValid D → IsLegal D past → AllByRecursion (λ x. x.index < 2 ^ 32) (sent D past)
+indexes_fit D past valid legal = wider (sent D past) (few_indexes D past valid legal)
+
+pub share_within : (D : Desc) (past : List Entry) (k : ℕ) → IsValid D → IsLegal D past → length (ended_share D past k) ≤ channel_limit
+share_within D past k valid legal = within_limit (length (ended_share D past k)) (short_share D past k valid legal)
