@@ -8,3 +8,4 @@ pub mod Standing
 pub mod Streams
 pub mod LanesJoin
 pub mod Costs
+pub mod Bringing

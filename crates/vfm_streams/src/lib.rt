@@ -6,4 +6,7 @@
 
 mod lanes;
 
-pub use lanes::{channels_bring_all_that_is_sent, what_is_sent_is_numbered};
+pub use lanes::{
+    channels_bring_all_that_is_sent, packets_once_each_bring_all_that_is_sent,
+    what_is_sent_is_numbered,
+};
