@@ -3,11 +3,12 @@
 //! `vfm_types` and `vfm_plain`, and of this crate what was copied and read last, and what of it may have changed since.
 #![tactic(auto)]
 
+mod changed;
 mod few;
 mod joint;
 mod losing;
-mod changed;
 
+pub use changed::{changed_block_is_stale, changed_page_is_stale};
 pub use few::{copies_are_few, readings_are_few};
 pub use joint::{
     last_pass_copies_joint_pages, last_pass_reads_joint_blocks, last_pass_sends_joint_machine,
@@ -18,4 +19,3 @@ pub use losing::{
     pass_without_report, report_before_stop, report_twice, resume_before_last_pass,
     resume_in_last_pass, runs_have_valid_machines,
 };
-pub use changed::{changed_block_is_stale, changed_page_is_stale};

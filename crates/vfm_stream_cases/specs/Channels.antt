@@ -1,14 +1,10 @@
 -- The channel of a worked move with one device, as packets and as bytes, and changed copies of it.
 use Rattle.std.specs.Prelude.{ℕ, ◌+◌, List, [], ◌∷◌, ◌++◌, reverse, take, drop, slice_set, slice_index_or, None}
-use Rattle.vfm_types.specs.declared.desc.Desc.{Desc}
 use Rattle.vfm_types.specs.declared.entry.Entry.{Entry}
-use Rattle.vfm_packet.specs.declared.header.Header.{Header}
-use Rattle.vfm_packet.specs.declared.header.Kind.TheVariants as kinds
 use Rattle.vfm_packet.specs.Packet.{Packet}
-use Rattle.vfm_packet.specs.Reading.{Reading}
 use Rattle.vfm_packet.specs.Worked.{expected}
-use Rattle.vfm_record.specs.Record.{Record, Page, Engine, Pending, Config}
-use Rattle.vfm_record.specs.Packing.{record_packet, end_of}
+use Rattle.vfm_record.specs.Record.{Record}
+use Rattle.vfm_record.specs.Packing.{end_of}
 use Rattle.vfm_cases.specs.One.{one, one_source}
 use Rattle.vfm_streams.specs.Sent.{Sent, sent}
 use Rattle.vfm_streams.specs.Packets.{packet_of, lane_packets, ended_share}

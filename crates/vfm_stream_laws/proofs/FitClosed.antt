@@ -1,6 +1,6 @@
 -- What is sent once the last pass has ended: each stream is closed, and its records can stand one behind another.
-use Rattle.std.proofs.Common.{◌≡◌, ℕ, zero, suc, ◌+◌, ◌-◌, ◌*◌, ◌^◌, ◌<◌, ◌≤◌, Bool, true, false, List, [], ◌∷◌, ◌++◌, length, map, Option, Some, None, refl, ap, sym, ◌∙◌, subst, arith}
-use Rattle.std.specs.List.{AllByRecursion, All, sum_by}
+use Rattle.std.proofs.Common.{◌≡◌, ℕ, zero, suc, ◌+◌, ◌<◌, ◌≤◌, true, false, List, [], ◌∷◌, length, map, Some, None, refl, ap, sym, ◌∙◌, subst, arith}
+use Rattle.std.specs.List.{AllByRecursion, All}
 use Rattle.std.proofs.lemmas.List.Elements.{recursion_from_All, All-from_get_or}
 use Rattle.std.proofs.lemmas.List.Sums.{sum_by-le}
 use Rattle.sha2.proofs.Facts256.{length-sha256}
@@ -9,28 +9,28 @@ use Rattle.vfm_types.specs.declared.entry.Entry.{Entry}
 use Rattle.vfm_types.specs.declared.entry.Entry.TheVariants.{Joint}
 use Rattle.vfm_types.specs.Desc.{device_count, shape_at}
 use Rattle.vfm_types.specs.Machine.{DeviceState, Machine, no_device, device_of}
-use Rattle.vfm_types.specs.Deliveries.{machine_of, joint_machine}
+use Rattle.vfm_types.specs.Deliveries.{joint_machine}
 use Rattle.vfm_types.specs.Phases.{is_last_begun}
 use Rattle.vfm_types.specs.Blocks.{is_no_pass_open}
 use Rattle.vfm_types.specs.Valid.{IsValid}
 use Rattle.vfm_plain.specs.Legal.{IsLegal}
-use Rattle.vfm_plain.specs.Shape.{IsSound, all_done}
+use Rattle.vfm_plain.specs.Shape.{IsSound}
 use Rattle.vfm_laws.specs.Queues.{IsRising}
 use Rattle.vfm_laws.proofs.KeptQueues.{keeps_queues}
-use Rattle.vfm_record.specs.Record.{Record, Page, Block, Engine, Pending, Config, shape_of_stream, IsRecordOf}
+use Rattle.vfm_record.specs.Record.{Record, Pending, Config, IsRecordOf}
 use Rattle.vfm_record.specs.Shape.{shape_digest, shape_text}
-use Rattle.vfm_streams.specs.Sent.{Sent, sent, records_of, sent_in_passes, chunks, pairs_of_a_record, engine_record}
+use Rattle.vfm_streams.specs.Sent.{sent, records_of, sent_in_passes, chunks, pairs_of_a_record, engine_record}
 use Rattle.vfm_streams.specs.Packets.{kind_of}
 use Rattle.vfm_streams.specs.Whole.{is_config}
 use Rattle.vfm_streams.specs.Judged.{AllFit}
-use Rattle.vfm_streams.specs.Loaded.{all_pairs, has_engine}
-use Rattle.vfm_streams.proofs.Chunks.{joined, joined_chunks}
+use Rattle.vfm_streams.specs.Loaded.{has_engine}
+use Rattle.vfm_streams.proofs.Chunks.{joined_chunks}
 use Rattle.vfm_streams.proofs.ClosedRecords.{onto, closed_records, closed_memory, closed_stream}
 use Rattle.vfm_streams.proofs.Streams.{IsClosed}
 use Rattle.vfm_stream_laws.proofs.LastRecords.{no_pairs}
 use Rattle.vfm_stream_laws.proofs.LoadedJoint.{joint_sound, sent_closed, some_pairs}
-use Rattle.vfm_stream_laws.proofs.FitRecords.{PassesFit, fit_stand, shape_is, before_counts, memory_passes, device_passes}
-use Rattle.vfm_stream_laws.proofs.FitPending.{IsPiece, AllJobs, pieces_of, Behind, pieces_fit}
+use Rattle.vfm_stream_laws.proofs.FitRecords.{fit_stand, shape_is, before_counts, memory_passes, device_passes}
+use Rattle.vfm_stream_laws.proofs.FitPending.{pieces_of, pieces_fit}
 
 -- the pending requests of a device at the joint stop have rising numbers
 pub joint_rising : (D : Desc) → IsValid D → (past : List Entry) → IsLegal D past → (d : ℕ) → d < device_count D
@@ -109,19 +109,21 @@ module _ (D : Desc) (past : List Entry) (valid : IsValid D) (legal : IsLegal D p
       let counts : (device_of m d).accepted ≤ (shape_at D d).budget = (sound.counts d inside).within in
       let few : (shape_at D d).budget ≤ 50000 = (valid.in_range.devices d inside).budget in
       let jobs : length (shape_at D d).jobs ≤ 4096 = (valid.in_range.devices d inside).job_count in
-      let engine = engine_fits D m valid sound d inside in
-      (config_fits D (suc d), refl,
-      pieces_fit D d (device_of m d).accepted pending (omega arith) (omega arith) (joint_rising D valid past legal d inside)
-      (recursion_from_All (λ (r : ℕ × ℕ). r.1 < length (shape_at D d).jobs) pending (sound.shape.device d inside).jobs)
-      pieces (engine_record (device_of m d) ∷ older) [] (pieces_of (length pending) pairs_of_a_record pending some_pairs few_pairs)
-      (record {
-        counted = refl;
-        announced = refl;
-        numbers = refl;
-        came = no_pairs D past d;
-        all = sym (joined_chunks (length pending) pairs_of_a_record pending some_pairs (omega arith));
-      })
-      (engine, before_counts None (Some 0) (has_engine older) passes.idle, passes.fit))
+      let engine = engine_fits D m valid sound d inside in (
+        config_fits D (suc d),
+        refl,
+        pieces_fit D d (device_of m d).accepted pending (omega arith) (omega arith) (joint_rising D valid past legal d inside)
+            (recursion_from_All (λ (r : ℕ × ℕ). r.1 < length (shape_at D d).jobs) pending (sound.shape.device d inside).jobs)
+            pieces (engine_record (device_of m d) ∷ older) [] (pieces_of (length pending) pairs_of_a_record pending some_pairs few_pairs)
+            (record {
+              counted = refl;
+              announced = refl;
+              numbers = refl;
+              came = no_pairs D past d;
+              all = sym (joined_chunks (length pending) pairs_of_a_record pending some_pairs (omega arith));
+            })
+            (engine, before_counts None (Some 0) (has_engine older) passes.idle, passes.fit),
+      )
 
   pub device_closed : (d : ℕ) → d < device_count D → IsClosed D (suc d) (records_of (suc d) (sent D past))
   device_closed d inside =

@@ -1,17 +1,16 @@
 -- The pending requests of a device, cut into records: each can stand behind the counts and those before it.
-use Rattle.std.proofs.Common.{◌≡◌, ℕ, zero, suc, ◌+◌, ◌-◌, ◌*◌, ◌^◌, ◌<◌, ◌≤◌, ◌&&◌, not, Bool, true, false, if◌then◌else◌, nat_lt, nat_le, List, [], ◌∷◌, ◌++◌, length, map, take, drop, Option, Some, None, refl, ap, sym, ◌∙◌, subst, arith, append_assoc, length-append}
+use Rattle.std.proofs.Common.{◌≡◌, ℕ, zero, suc, ◌+◌, ◌*◌, ◌^◌, ◌<◌, ◌≤◌, ◌&&◌, not, Bool, true, false, if◌then◌else◌, nat_lt, nat_le, List, [], ◌∷◌, ◌++◌, length, map, take, drop, Option, Some, None, refl, ap, sym, ◌∙◌, subst, arith, append_assoc, length-append}
 use Rattle.std.specs.Prelude.{min}
 use Rattle.std.specs.List.{AllByRecursion}
 use Rattle.std.proofs.lemmas.Bool.{lt-ltb, le-leb, le-ltb}
-use Rattle.std.proofs.lemmas.List.{length-take, append-nil}
+use Rattle.std.proofs.lemmas.List.{length-take}
 use Rattle.vfm_types.specs.declared.desc.Desc.{Desc}
 use Rattle.vfm_types.specs.Desc.{shape_at}
 use Rattle.vfm_laws.specs.Queues.{IsRising}
 use Rattle.vfm_laws.proofs.Rising.{rising_low}
-use Rattle.vfm_record.specs.Record.{Record, Engine, Pending, FitsPair, shape_of_stream, IsRecordOf}
-use Rattle.vfm_streams.specs.Sent.{chunks, pairs_of_a_record}
+use Rattle.vfm_record.specs.Record.{Record, Pending, FitsPair, shape_of_stream, IsRecordOf}
+use Rattle.vfm_streams.specs.Sent.{chunks}
 use Rattle.vfm_streams.specs.Packets.{kind_of}
-use Rattle.vfm_streams.specs.Whole.{is_config}
 use Rattle.vfm_streams.specs.Loaded.{has_engine, engine_device, engine_pend, all_pairs}
 use Rattle.vfm_streams.specs.Judged.{AllFit, number_after, pairs_fault, pending_fault, stand_fault}
 use Rattle.vfm_streams.proofs.Chunks.{joined}

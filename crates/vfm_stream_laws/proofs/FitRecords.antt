@@ -1,7 +1,7 @@
 -- Records of a stream that can stand one behind another, and those that passes send.
-use Rattle.std.proofs.Common.{◌≡◌, ℕ, zero, suc, ◌+◌, ◌-◌, ◌*◌, ◌/◌, ◌^◌, ◌<◌, ◌≤◌, ◌==◌, ◌&&◌, not, Bool, true, false, if◌then◌else◌, List, [], ◌∷◌, ◌++◌, length, take, drop, replicate, nat_lt, Option, Some, None, refl, ap, sym, ◌∙◌, subst, arith, ⊎_elim, ltb-true}
+use Rattle.std.proofs.Common.{◌≡◌, ℕ, suc, ◌-◌, ◌*◌, ◌<◌, ◌≤◌, ◌&&◌, not, Bool, true, false, if◌then◌else◌, List, [], ◌∷◌, length, take, drop, nat_lt, Option, Some, None, refl, ap, sym, ◌∙◌, subst, arith, ⊎_elim, ltb-true}
 use Rattle.std.specs.List.{AllByRecursion}
-use Rattle.std.proofs.lemmas.Bool.{and_parts, cases_eq, not_from_false}
+use Rattle.std.proofs.lemmas.Bool.{and_parts, cases_eq}
 use Rattle.std.proofs.lemmas.List.{length-take-le, length-drop, take-take}
 use Rattle.vfm_types.specs.declared.desc.Desc.{Desc}
 use Rattle.vfm_types.specs.declared.entry.Entry.{Entry}
@@ -14,13 +14,13 @@ use Rattle.vfm_types.proofs.BarSizes.{all_bars}
 use Rattle.vfm_plain.specs.Legal.{IsLegal}
 use Rattle.vfm_plain.specs.Shape.{IsSound}
 use Rattle.vfm_laws.proofs.Enabled.{machine_sound}
-use Rattle.vfm_record.specs.Record.{Record, Page, Block, bell_bytes, KeepsBell, shape_of_stream, IsRecordOf}
+use Rattle.vfm_record.specs.Record.{Record, Page, Block, KeepsBell, shape_of_stream, IsRecordOf}
 use Rattle.vfm_record.proofs.Again.{again}
-use Rattle.vfm_streams.specs.Sent.{Sent, records_of, push, sent_in_passes}
+use Rattle.vfm_streams.specs.Sent.{records_of, push, sent_in_passes}
 use Rattle.vfm_streams.specs.Packets.{kind_of}
 use Rattle.vfm_streams.specs.Whole.{is_config}
 use Rattle.vfm_streams.specs.Loaded.{has_engine}
-use Rattle.vfm_streams.specs.Judged.{stand_fault, AllFit}
+use Rattle.vfm_streams.specs.Judged.{AllFit}
 use Rattle.vfm_streams.proofs.ClosedRecords.{pushed_same, pushed_other}
 use Rattle.vfm_streams.proofs.Standing.{AllStand}
 

@@ -16,7 +16,6 @@ use Rattle.vfm_types.specs.Arcs.{state_of}
 use Rattle.vfm_base.specs.Least.{all_below}
 use Rattle.vfm_types.specs.Words.{is_decided}
 use Rattle.vfm_plain.specs.Legal.{IsLegal}
-use Rattle.vfm_plain.specs.PassRules.{is_pass_wanted}
 use Rattle.vfm_laws.proofs.Rising.{by_bool}
 use Rattle.vfm_copying.proofs.Conditions.{pass_parts, copy_parts, block_parts, dry_parts, joint_parts}
 use Rattle.vfm_copying.proofs.Decided.{open_copy, open_part}

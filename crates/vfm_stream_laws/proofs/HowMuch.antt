@@ -1,5 +1,5 @@
 -- How much is sent for a legal list of a valid description: indexes fit their fields, and channels stay below their limit.
-use Rattle.std.proofs.Common.{◌≡◌, ℕ, zero, suc, ◌+◌, ◌-◌, ◌*◌, ◌/◌, ◌^◌, ◌<◌, ◌≤◌, ◌==◌, ◌&&◌, Bool, true, false, if◌then◌else◌, nat_lt, List, [], ◌∷◌, ◌++◌, length, map, take, drop, refl, ap, sym, ◌∙◌, subst, arith, ⊎_elim, ltb-true, eqb-true, eq-eqb, mul-le-mul_right, length-append}
+use Rattle.std.proofs.Common.{◌≡◌, ℕ, zero, suc, ◌+◌, ◌*◌, ◌<◌, ◌≤◌, ◌==◌, ◌&&◌, Bool, true, false, if◌then◌else◌, nat_lt, List, [], ◌∷◌, length, map, take, drop, refl, ap, sym, arith, ⊎_elim, ltb-true, eq-eqb, mul-le-mul_right, length-append}
 use Rattle.std.specs.List.{AllByRecursion}
 use Rattle.std.proofs.lemmas.Bool.{and_parts, cases_lt, ne_eqb}
 use Rattle.std.proofs.lemmas.List.{length-map, length-take}
@@ -20,14 +20,13 @@ use Rattle.vfm_laws.proofs.Enabled.{machine_sound}
 use Rattle.vfm_copying.specs.Counts.{copy_count, reading_count}
 use Rattle.vfm_copying.proofs.FewCopies.{most_copies, most_readings}
 use Rattle.vfm_packet.specs.Packet.{seal_len, packet_bytes}
-use Rattle.vfm_packet.specs.Channel.{all_bytes}
 use Rattle.vfm_packet.proofs.Packets.{length-packet_bytes}
-use Rattle.vfm_record.specs.Record.{Record, Page, Block, Engine, Pending, Config, record_size}
+use Rattle.vfm_record.specs.Record.{Pending, Config}
 use Rattle.vfm_record.specs.Packing.{end_of}
 use Rattle.vfm_record.specs.Shape.{shape_digest}
 use Rattle.vfm_record.proofs.Writable.{page_limit}
-use Rattle.vfm_streams.specs.Sent.{Sent, sent, records_of, push, push_all, sent_in_passes, chunks, pairs_of_a_record, pending_records, engine_record, with_device_closed, with_devices_closed, with_all_closed}
-use Rattle.vfm_streams.specs.Packets.{lane_packets, share, ended_share}
+use Rattle.vfm_streams.specs.Sent.{Sent, sent, push, push_all, sent_in_passes, chunks, pairs_of_a_record, engine_record, with_device_closed, with_devices_closed, with_all_closed}
+use Rattle.vfm_streams.specs.Packets.{share, ended_share}
 use Rattle.vfm_streams.proofs.Chunks.{joined, joined_chunks}
 use Rattle.vfm_streams.proofs.Numbered.{numbered_sent}
 use Rattle.vfm_streams.proofs.Costs.{cost_of, short_seal, lane_cost, few_chunks, pieces_cost, pushed_length, indexes_below}

@@ -1,16 +1,15 @@
 -- The verdict on packets that bring what was sent: the machine at the joint stop.
-use Rattle.std.proofs.Common.{◌≡◌, ℕ, zero, suc, ◌+◌, ◌<◌, ◌≤◌, ◌==◌, ◌&&◌, Bool, true, false, if◌then◌else◌, nat_eq, List, [], ◌∷◌, length, map, Option, Some, None, is_none, unwrap_or, refl, ap, ap₂, sym, ◌∙◌, subst, arith, eq-eqb}
+use Rattle.std.proofs.Common.{◌≡◌, ℕ, zero, suc, ◌+◌, ◌<◌, ◌≤◌, ◌==◌, ◌&&◌, Bool, true, false, if◌then◌else◌, nat_eq, List, [], length, map, Option, Some, None, is_none, unwrap_or, refl, ap, ap₂, sym, ◌∙◌, arith, eq-eqb}
 use Rattle.std.specs.List.{range_with_len}
 use Rattle.std.specs.Option.{option_or, option_map}
 use Rattle.std.specs.Cmp.Lexicographic.{pointwise}
 use Rattle.std.proofs.lemmas.Bool.{and_from}
-use Rattle.vfm_base.specs.Least.{least_below}
 use Rattle.vfm_types.specs.declared.desc.Desc.{Desc}
 use Rattle.vfm_types.specs.declared.entry.Entry.{Entry}
 use Rattle.vfm_types.specs.declared.fault.Refusal.{Refusal}
 use Rattle.vfm_types.specs.Desc.{device_count, shape_at, block_count}
-use Rattle.vfm_types.specs.Machine.{DeviceState, Machine, device_of}
-use Rattle.vfm_types.specs.Deliveries.{joint_machine, page_bytes, block_bytes}
+use Rattle.vfm_types.specs.Machine.{DeviceState, device_of}
+use Rattle.vfm_types.specs.Deliveries.{joint_machine}
 use Rattle.vfm_types.specs.Phases.{is_last_begun}
 use Rattle.vfm_types.specs.Blocks.{is_no_pass_open}
 use Rattle.vfm_types.specs.Valid.{IsValid}
@@ -18,19 +17,19 @@ use Rattle.vfm_plain.specs.Legal.{IsLegal}
 use Rattle.vfm_copying.proofs.AllSent.{same_itself}
 use Rattle.vfm_packet.specs.Packet.{Packet}
 use Rattle.vfm_packet.specs.Reading.{Reading}
-use Rattle.vfm_record.specs.Record.{Record, Config}
+use Rattle.vfm_record.specs.Record.{Record}
 use Rattle.vfm_record.specs.Shape.{shape_digest}
 use Rattle.vfm_streams.specs.Sent.{Sent, sent, records_of, sent_in_passes}
 use Rattle.vfm_streams.specs.Whole.{StreamFault, ConfigDiffers, NotWhole, stream_packets, gap_of, in_order}
 use Rattle.vfm_streams.specs.Loaded.{last_page, last_block, all_pairs, has_engine, engine_pend, loaded_device, loaded}
 use Rattle.vfm_streams.specs.Judged.{said, bad_record, digest_of, config_differs, engine_lacks, lacks, load_fault, stream_fault}
-use Rattle.vfm_streams.specs.Verdict.{Verdict, Refuses, Loads, stream_refusal, refused_channel, refused_stream, brought, loaded_from, refuses_or, verdict_on}
+use Rattle.vfm_streams.specs.Verdict.{Loads, stream_refusal, refused_channel, refused_stream, brought, loaded_from, refuses_or, verdict_on}
 use Rattle.vfm_streams.specs.Brought.{BringsSent, lane_readings}
 use Rattle.vfm_streams.proofs.Numbered.{numbered_sent}
 use Rattle.vfm_streams.proofs.Gaps.{all_fail}
 use Rattle.vfm_streams.proofs.LanesJoin.{lanes_bring, lanes_unrefused}
-use Rattle.vfm_streams.proofs.ClosedRecords.{closed_records, closed_counted, closed_announced}
-use Rattle.vfm_streams.proofs.Streams.{IsClosed, stream_whole, stream_good, stream_says}
+use Rattle.vfm_streams.proofs.ClosedRecords.{closed_counted, closed_announced}
+use Rattle.vfm_streams.proofs.Streams.{stream_whole, stream_good, stream_says}
 use Rattle.vfm_stream_laws.proofs.LoadedJoint.{page_came, memory_is, stream_is, block_came, pairs_came, loaded_is}
 use Rattle.vfm_stream_laws.proofs.FitClosed.{memory_closed, device_closed}
 

@@ -1,5 +1,5 @@
 -- The last record of each page and block that passes sent is its last copy or reading.
-use Rattle.std.proofs.Common.{◌≡◌, ℕ, suc, ◌+◌, ◌<◌, ◌==◌, Bool, true, false, ◌&&◌, if◌then◌else◌, List, [], ◌∷◌, Option, Some, None, refl, ap, sym, ◌∙◌, subst, arith, ⊎_elim, eqb-true, eq-eqb}
+use Rattle.std.proofs.Common.{◌≡◌, ℕ, suc, ◌==◌, Bool, true, ◌&&◌, if◌then◌else◌, List, [], ◌∷◌, Some, refl, ap, sym, ◌∙◌, subst, arith, ⊎_elim, eqb-true, eq-eqb}
 use Rattle.std.proofs.lemmas.Bool.{ne_eqb, cases_eq}
 use Rattle.vfm_types.specs.declared.desc.Desc.{Desc}
 use Rattle.vfm_types.specs.declared.entry.Entry.{Entry}
@@ -7,7 +7,7 @@ use Rattle.vfm_types.specs.declared.entry.Entry.TheVariants.{Copy as CopyOf, Blo
 use Rattle.vfm_types.specs.Deliveries.{machine_of, page_bytes, block_bytes}
 use Rattle.vfm_laws.proofs.Rising.{by_bool}
 use Rattle.vfm_copying.specs.Copies.{last_copy, last_reading}
-use Rattle.vfm_record.specs.Record.{Record, Page, Block}
+use Rattle.vfm_record.specs.Record.{Page, Block}
 use Rattle.vfm_streams.specs.Sent.{records_of, push, sent_in_passes}
 use Rattle.vfm_streams.specs.Loaded.{last_page, last_block, all_pairs}
 use Rattle.vfm_streams.proofs.ClosedRecords.{pushed_same, pushed_other}

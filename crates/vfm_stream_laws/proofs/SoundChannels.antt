@@ -1,5 +1,5 @@
 -- What each channel carries is a sound channel, so all of them together are judged to be the machine at the joint stop.
-use Rattle.std.proofs.Common.{◌≡◌, ℕ, zero, suc, ◌+◌, ◌^◌, ◌<◌, ◌≤◌, ◌==◌, ◌&&◌, Bool, true, false, if◌then◌else◌, nat_lt, IsTrue, List, [], ◌∷◌, ◌++◌, length, map, Some, None, refl, ap, sym, ◌∙◌, subst, arith, ltb-true, eq-eqb}
+use Rattle.std.proofs.Common.{◌≡◌, ℕ, zero, suc, ◌+◌, ◌^◌, ◌<◌, ◌≤◌, ◌==◌, ◌&&◌, true, if◌then◌else◌, nat_lt, List, [], ◌∷◌, ◌++◌, length, map, None, refl, ap, sym, ◌∙◌, subst, arith, ltb-true, eq-eqb}
 use Rattle.std.specs.List.{AllByRecursion, range_with_len}
 use Rattle.std.proofs.lemmas.Bool.{and_parts, cond-true, false≢true}
 use Rattle.std.proofs.lemmas.List.{append-nil}
@@ -7,30 +7,29 @@ use Rattle.vfm_types.specs.declared.desc.Desc.{Desc}
 use Rattle.vfm_types.specs.declared.entry.Entry.{Entry}
 use Rattle.vfm_types.specs.declared.entry.Entry.TheVariants.{Copy as CopyOf, Block as BlockOf}
 use Rattle.vfm_types.specs.Desc.{device_count, shape_at, block_count}
-use Rattle.vfm_types.specs.Machine.{DeviceState, Machine, device_of}
+use Rattle.vfm_types.specs.Machine.{Machine, device_of}
 use Rattle.vfm_types.specs.Deliveries.{joint_machine}
 use Rattle.vfm_types.specs.Phases.{is_last_begun}
 use Rattle.vfm_types.specs.Blocks.{is_no_pass_open}
 use Rattle.vfm_types.specs.Valid.{IsValid}
 use Rattle.vfm_plain.specs.Legal.{IsLegal}
 use Rattle.vfm_laws.proofs.Rising.{by_bool}
-use Rattle.vfm_packet.specs.declared.header.Kind.TheVariants as kinds
 use Rattle.vfm_packet.specs.declared.answer.Expect.{Expect}
 use Rattle.vfm_packet.specs.Header.{IsVersion, carries}
 use Rattle.vfm_packet.specs.Packet.{Packet, packet_bytes, IsSoundPacket}
 use Rattle.vfm_packet.specs.Channel.{channel_limit, IsCarried, IsSoundChannel}
-use Rattle.vfm_packet.specs.Reading.{Reading, reading_within}
+use Rattle.vfm_packet.specs.Reading.{reading_within}
 use Rattle.vfm_packet.proofs.Readings.{sound_reads}
 use Rattle.vfm_record.specs.Record.{Record, Page, Block, Engine, Pending, Config, IsRecordOf}
 use Rattle.vfm_record.specs.Packing.{end_of}
 use Rattle.vfm_record.specs.Shape.{shape_digest}
 use Rattle.vfm_record.proofs.Again.{within_payload}
 use Rattle.vfm_record.proofs.Writable.{page_limit}
-use Rattle.vfm_streams.specs.Sent.{Sent, sent, records_of, push, push_all, pending_records, engine_record, with_device_closed, with_devices_closed, with_all_closed, sent_in_passes}
+use Rattle.vfm_streams.specs.Sent.{Sent, sent, records_of, push, push_all, pending_records, engine_record, with_devices_closed, with_all_closed, sent_in_passes}
 use Rattle.vfm_streams.specs.Packets.{kind_of, packet_of, lane_of, lane_packets, ended_share}
 use Rattle.vfm_streams.specs.Judged.{AllFit}
-use Rattle.vfm_streams.specs.Brought.{BringsSent, lane_reading, lane_readings}
-use Rattle.vfm_streams.specs.Verdict.{Verdict, Loads, Expects, refused_channel, brought, verdict_on, verdict}
+use Rattle.vfm_streams.specs.Brought.{BringsSent, lane_reading}
+use Rattle.vfm_streams.specs.Verdict.{Loads, Expects, refused_channel, brought, verdict_on, verdict}
 use Rattle.vfm_streams.proofs.LanesJoin.{lane_same, lane_other}
 use Rattle.vfm_stream_laws.proofs.FitClosed.{all_fit}
 use Rattle.vfm_stream_laws.proofs.JointVerdict.{brought_verdict, own_verdict}

@@ -1,7 +1,7 @@
 -- Lists cut into pieces, and put together again.
-use Rattle.std.proofs.Common.{◌≡◌, ℕ, zero, suc, ◌+◌, ◌-◌, ◌*◌, ◌<◌, ◌≤◌, List, [], ◌∷◌, ◌++◌, length, take, drop, map, refl, ap, sym, ◌∙◌, arith, append_assoc}
+use Rattle.std.proofs.Common.{◌≡◌, ℕ, zero, suc, ◌+◌, ◌-◌, ◌*◌, ◌<◌, ◌≤◌, List, [], ◌∷◌, ◌++◌, length, take, drop, refl, ap, sym, ◌∙◌, arith}
 use Rattle.std.specs.List.{flat_map, range_with_len}
-use Rattle.std.proofs.lemmas.List.{append-nil, take-append-drop, length-drop, take_all, drop-drop}
+use Rattle.std.proofs.lemmas.List.{take-append-drop, length-drop, take_all, drop-drop}
 use Rattle.vfm_streams.specs.Sent.{chunks}
 
 -- the pieces one behind another

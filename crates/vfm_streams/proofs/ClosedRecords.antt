@@ -1,14 +1,14 @@
 -- The records of a stream once all streams are closed.
-use Rattle.std.proofs.Common.{◌≡◌, ℕ, zero, suc, ◌+◌, ◌<◌, ◌≤◌, ◌==◌, Bool, true, false, if◌then◌else◌, List, [], ◌∷◌, ◌++◌, length, map, refl, ap, sym, ◌∙◌, subst, arith, ⊎_elim, eq-eqb, append_assoc}
+use Rattle.std.proofs.Common.{◌≡◌, ℕ, zero, suc, ◌<◌, ◌≤◌, ◌==◌, true, List, [], ◌∷◌, ◌++◌, length, map, refl, ap, sym, ◌∙◌, subst, arith, ⊎_elim, eq-eqb, append_assoc}
 use Rattle.std.proofs.lemmas.Bool.{cond-true, cond-false, ne_eqb, cases_lt}
 use Rattle.std.proofs.lemmas.List.{append-nil}
 use Rattle.vfm_types.specs.declared.desc.Desc.{Desc}
 use Rattle.vfm_types.specs.Desc.{device_count}
 use Rattle.vfm_types.specs.Machine.{DeviceState, Machine, device_of}
-use Rattle.vfm_record.specs.Record.{Record, Page, Block, Engine, Pending, Config}
+use Rattle.vfm_record.specs.Record.{Record, Pending, Config}
 use Rattle.vfm_record.specs.Shape.{shape_digest}
 use Rattle.vfm_streams.specs.Sent.{Sent, records_of, push, push_all, chunks, pairs_of_a_record, pending_records, engine_record, with_device_closed, with_devices_closed, with_all_closed}
-use Rattle.vfm_streams.specs.Loaded.{last_page, last_block, all_pairs, has_engine, engine_device, engine_pend}
+use Rattle.vfm_streams.specs.Loaded.{last_block, all_pairs, has_engine, engine_device, engine_pend}
 use Rattle.vfm_streams.proofs.Chunks.{joined}
 
 -- records put before others one by one

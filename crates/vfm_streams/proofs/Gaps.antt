@@ -1,13 +1,13 @@
 -- Packets of which each index below a number stands once and none above, the last alone a config packet: a whole stream.
-use Rattle.std.proofs.Common.{◌≡◌, ℕ, zero, suc, ◌+◌, ◌-◌, ◌<◌, ◌≤◌, ◌==◌, Bool, true, false, ◌&&◌, ◌||◌, if◌then◌else◌, nat_lt, List, [], ◌∷◌, length, map, Option, Some, None, unwrap_or, refl, ap, sym, ◌∙◌, subst, arith, ⊎_elim, eqb-true, eq-eqb}
+use Rattle.std.proofs.Common.{◌≡◌, ℕ, zero, suc, ◌+◌, ◌-◌, ◌<◌, ◌≤◌, ◌==◌, Bool, true, false, ◌&&◌, ◌||◌, if◌then◌else◌, nat_lt, List, [], ◌∷◌, map, Option, Some, None, unwrap_or, refl, ap, sym, ◌∙◌, subst, arith, ⊎_elim, eqb-true, eq-eqb}
 use Rattle.std.specs.Prelude.{max}
-use Rattle.std.specs.List.{list_any, range_with_len, AllByRecursion}
+use Rattle.std.specs.List.{range_with_len, AllByRecursion}
 use Rattle.std.specs.Option.{option_or, option_map}
-use Rattle.std.proofs.lemmas.Bool.{cases_lt, cases_eq, ne_eqb, le-ltb, lt-ltb, and_left, and_right, or_from, or_left, or_right, false≢true}
+use Rattle.std.proofs.lemmas.Bool.{cases_lt, cases_eq, ne_eqb, le-ltb, and_left, or_from, or_left, false≢true}
 use Rattle.vfm_base.specs.Least.{least_from, least_below}
 use Rattle.vfm_packet.specs.Packet.{Packet}
 use Rattle.vfm_record.specs.Packing.{end_of}
-use Rattle.vfm_streams.specs.Whole.{StreamFault, Doubled, Past, Missing, times, packet_with, top, is_config, has_config_at, config_index, gap_by_config, gap_of, in_order}
+use Rattle.vfm_streams.specs.Whole.{Doubled, Past, Missing, times, packet_with, top, is_config, has_config_at, config_index, gap_by_config, gap_of, in_order}
 use Rattle.vfm_streams.proofs.Numbered.{by_bool}
 
 -- ---- the least number that passes

@@ -1,14 +1,12 @@
 -- The channels of what is sent come back together: each packet stands on one channel, once.
-use Rattle.std.proofs.Common.{◌≡◌, ℕ, zero, suc, ◌+◌, ◌%◌, ◌<◌, ◌≤◌, ◌==◌, ◌&&◌, Bool, true, false, ◌⊎◌, inl, inr, if◌then◌else◌, List, [], ◌∷◌, ◌++◌, length, map, filter, reverse, Option, Some, None, refl, ap, sym, ◌∙◌, subst, arith, ⊎_elim, eqb-true, eq-eqb}
+use Rattle.std.proofs.Common.{◌≡◌, ℕ, zero, suc, ◌+◌, ◌<◌, ◌≤◌, ◌==◌, ◌&&◌, Bool, true, false, inl, inr, if◌then◌else◌, List, [], ◌∷◌, ◌++◌, map, filter, reverse, None, refl, ap, sym, ◌∙◌, subst, arith, ⊎_elim, eqb-true, eq-eqb}
 use Rattle.std.specs.List.{AllByRecursion, flat_map, range_with_len}
-use Rattle.std.specs.Option.{option_or, option_map}
-use Rattle.std.proofs.lemmas.Bool.{cond-true, cond-false, ne_eqb, eqb-false, cases_eq, and_parts, false≢true, true≢false}
+use Rattle.std.proofs.lemmas.Bool.{cond-true, cond-false, ne_eqb, cases_eq, and_parts, false≢true, true≢false}
 use Rattle.std.proofs.lemmas.List.{map-append}
 use Rattle.std.proofs.lemmas.List.Elements.{filter-append}
 use Rattle.std.proofs.lemmas.List.Folds.{flat_map-map}
 use Rattle.std.proofs.lemmas.Grind.{reverse_onto}
 use Rattle.vfm_types.specs.declared.desc.Desc.{Desc}
-use Rattle.vfm_types.specs.declared.fault.Refusal.{Refusal}
 use Rattle.vfm_packet.specs.Packet.{Packet}
 use Rattle.vfm_packet.specs.Reading.{Reading}
 use Rattle.vfm_send.specs.Lanes.{lane}
@@ -16,7 +14,7 @@ use Rattle.vfm_streams.specs.Sent.{Sent}
 use Rattle.vfm_streams.specs.Packets.{packet_of, lane_of, lane_packets}
 use Rattle.vfm_streams.specs.Whole.{stream_packets, times}
 use Rattle.vfm_streams.specs.Brought.{times_sent, IsOfSent, BringsSent, lane_reading, lane_readings}
-use Rattle.vfm_streams.specs.Verdict.{channel_refusal, refused_channel, brought}
+use Rattle.vfm_streams.specs.Verdict.{refused_channel, brought}
 use Rattle.vfm_streams.proofs.Numbered.{by_bool}
 
 -- ---- each packet is one that was sent

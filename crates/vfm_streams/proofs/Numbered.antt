@@ -1,6 +1,6 @@
 -- What is sent is numbered: the records of a stream have the indexes from 0 on, in their order.
-use Rattle.std.proofs.Common.{◌≡◌, ℕ, zero, suc, ◌+◌, ◌<◌, ◌≤◌, ◌==◌, Bool, true, false, ◌&&◌, ◌⊎◌, inl, inr, if◌then◌else◌, List, [], ◌∷◌, ◌++◌, length, map, filter, reverse, get_or, refl, ap, sym, ◌∙◌, subst, arith, ⊎_elim, eqb-true, eq-eqb}
-use Rattle.std.proofs.lemmas.Bool.{cond-true, cond-false, cases_lt, ne_eqb, and_right, and_left, eqb-false}
+use Rattle.std.proofs.Common.{◌≡◌, ℕ, zero, suc, ◌+◌, ◌<◌, ◌≤◌, ◌==◌, Bool, true, false, ◌&&◌, inl, inr, if◌then◌else◌, List, [], ◌∷◌, ◌++◌, length, map, filter, reverse, get_or, refl, ap, sym, ◌∙◌, subst, arith, ⊎_elim, eqb-true, eq-eqb}
+use Rattle.std.proofs.lemmas.Bool.{cond-true, cond-false, cases_lt, ne_eqb}
 use Rattle.std.proofs.lemmas.List.{length-reverse, length_push, get_or_append_left, get_or_push}
 use Rattle.std.proofs.lemmas.Grind.{reverse_onto}
 use Rattle.vfm_types.specs.declared.desc.Desc.{Desc}
@@ -8,11 +8,11 @@ use Rattle.vfm_types.specs.declared.entry.Entry.{Entry}
 use Rattle.vfm_types.specs.declared.entry.Entry.TheVariants.{Copy as CopyOf, Block as BlockOf}
 use Rattle.vfm_types.specs.Desc.{device_count}
 use Rattle.vfm_types.specs.Machine.{DeviceState, Machine, device_of}
-use Rattle.vfm_types.specs.Deliveries.{machine_of, page_bytes, block_bytes, joint_machine}
+use Rattle.vfm_types.specs.Deliveries.{joint_machine}
 use Rattle.vfm_types.specs.Phases.{is_last_begun}
 use Rattle.vfm_types.specs.Blocks.{is_no_pass_open}
 use Rattle.vfm_packet.specs.Packet.{Packet}
-use Rattle.vfm_record.specs.Record.{Record, Page, Block, Config}
+use Rattle.vfm_record.specs.Record.{Record, Config}
 use Rattle.vfm_record.specs.Shape.{shape_digest}
 use Rattle.vfm_streams.specs.Sent.{Sent, IsNumbered, records_of, push, push_all, pending_records, engine_record, with_device_closed, with_devices_closed, with_all_closed, sent_in_passes, sent}
 use Rattle.vfm_streams.specs.Packets.{packet_of}

@@ -1,8 +1,7 @@
 -- Packets that bring what was sent, each once: each stream whose records stand is whole, and says what was sent.
-use Rattle.std.proofs.Common.{◌≡◌, ℕ, zero, suc, ◌+◌, ◌<◌, ◌≤◌, ◌==◌, Bool, true, false, ◌⊎◌, inl, inr, if◌then◌else◌, List, [], ◌∷◌, ◌++◌, length, map, filter, reverse, get_or, Option, Some, None, refl, ap, sym, ◌∙◌, subst, arith, ⊎_elim, eqb-true}
-use Rattle.std.specs.List.{AllByRecursion, range_with_len}
-use Rattle.std.specs.Option.{option_or}
-use Rattle.std.proofs.lemmas.List.{length-map, length-reverse, length_push, get_or_append_left, get_or_push}
+use Rattle.std.proofs.Common.{◌≡◌, ℕ, suc, ◌+◌, ◌<◌, ◌≤◌, ◌==◌, true, false, if◌then◌else◌, List, [], ◌∷◌, length, map, reverse, get_or, None, refl, ap, sym, ◌∙◌, subst, arith, ⊎_elim, eqb-true}
+use Rattle.std.specs.List.{AllByRecursion}
+use Rattle.std.proofs.lemmas.List.{length-map, length-reverse, get_or_append_left, get_or_push}
 use Rattle.std.proofs.lemmas.List.FromFn.{fill_by_all}
 use Rattle.std.proofs.lemmas.Grind.{reverse_onto}
 use Rattle.std.proofs.lemmas.Bool.{cases_lt}
@@ -68,13 +67,13 @@ kinds_in_turn (x ∷ xs) digest older d is data_ =
     let len : length (reverse xs) ≡ length xs = length-reverse xs in
     let all = says_data xs (subst (λ (rs : List Record). AllByRecursion (λ r. is_config (kind_of r) ≡ false) rs) (sym tail) data_) in (
       (λ i below.
-      subst (λ (y : Sent). is_config (kind_of y.says) ≡ false)
-      (sym (ap (λ (ys : List Sent). get_or ys i d) whole ∙ get_or_append_left (reverse xs) (x ∷ []) d i (omega arith)))
-      (all_at (λ y. is_config (kind_of y.says) ≡ false) xs i d all (omega arith))),
+          subst (λ (y : Sent). is_config (kind_of y.says) ≡ false)
+          (sym (ap (λ (ys : List Sent). get_or ys i d) whole ∙ get_or_append_left (reverse xs) (x ∷ []) d i (omega arith)))
+          (all_at (λ y. is_config (kind_of y.says) ≡ false) xs i d all (omega arith))),
       (λ i last.
-      subst (λ (y : Sent). is_config (kind_of y.says) ≡ true)
-      (sym (ap (λ (ys : List Sent). get_or ys i d) whole ∙ get_or_push (reverse xs) x d i (omega arith)))
-      (ap (λ (r : Record). is_config (kind_of r)) head)),
+          subst (λ (y : Sent). is_config (kind_of y.says) ≡ true)
+          (sym (ap (λ (ys : List Sent). get_or ys i d) whole ∙ get_or_push (reverse xs) x d i (omega arith)))
+          (ap (λ (r : Record). is_config (kind_of r)) head)),
     )
 
 -- nothing, where a default is asked for
