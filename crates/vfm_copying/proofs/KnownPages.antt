@@ -1,5 +1,5 @@
 -- A page of which no set, no log, no report and no request on the bus tells is as its last copy took it.
-use Rattle.std.proofs.Common.{◌≡◌, ℕ, ◌+◌, ◌<◌, ◌==◌, Bool, true, false, not, ◌&&◌, ◌||◌, if◌then◌else◌, List, [], ◌∷◌, nat_lt, Option, Some, None, refl, ap, sym, ◌∙◌, subst, arith, ltb-true, lt-ltb, eqb-true, eq-eqb, is_none}
+use Rattle.std.proofs.Common.{◌≡◌, ℕ, ◌+◌, ◌<◌, ◌==◌, Bool, true, false, not, ◌&&◌, ◌||◌, if◌then◌else◌, List, [], ◌∷◌, nat_lt, Some, refl, ap, sym, ◌∙◌, subst, arith, ltb-true, lt-ltb, eqb-true, eq-eqb, is_none}
 use Rattle.std.proofs.lemmas.Bool.{eqb-false, or_parts, and_from, and_parts, false≢true, true_from_ne_false, both_ways}
 use Rattle.vfm_types.specs.declared.desc.Desc.{Desc}
 use Rattle.vfm_types.specs.declared.entry.Entry.{Entry}
@@ -20,7 +20,7 @@ use Rattle.vfm_laws.proofs.Conditions.{deliver_met}
 use Rattle.vfm_laws.proofs.QueueLaws.{same_job}
 use Rattle.vfm_copying.specs.Copies.{last_copy}
 use Rattle.vfm_copying.specs.Stale.{is_left_to_copy, is_gathered, has_delivered, job_writes_page, is_written_unseen, is_write_known, is_page_stale}
-use Rattle.vfm_copying.proofs.Tests.{any_below_none, least_none}
+use Rattle.vfm_copying.proofs.Tests.{none_is, any_below_none, least_none}
 use Rattle.vfm_copying.proofs.Conditions.{pass_parts, report_parts, begin_new}
 use Rattle.vfm_copying.proofs.PageWrites.{effect_leaves_page}
 use Rattle.vfm_copying.proofs.Delivered.{issued_undelivered, before_delivery, before_completion}
@@ -43,11 +43,7 @@ pass_begun D (entry ∷ past) legal some = pass_begun D past legal.2 some
 -- in no open pass a page is left
 pub none_left : (D : Desc) (past : List Entry) (q : ℕ) → is_no_pass_open D past ≡ true → q < D.pages → is_left_to_copy D q past ≡ false
 none_left D past q ended inside =
-    least_none D.pages (λ p. is_left_to_copy D p past) q (nothing (next_copy D past) (and_parts (is_none (next_copy D past)) (is_none (next_part D past)) ended).0) inside
-  where
-    nothing : (o : Option ℕ) → is_none o ≡ true → o ≡ None
-    nothing None is = refl
-    nothing (Some k) is = absurd (false≢true is)
+    least_none D.pages (λ p. is_left_to_copy D p past) q (none_is (next_copy D past) (and_parts (is_none (next_copy D past)) (is_none (next_part D past)) ended).0) inside
 
 -- what the set of a pass says of a page that isn't in it
 pub unset : (D : Desc) (past : List Entry) (k q : ℕ) → q < D.pages → is_left_to_copy D q (Pass k ∷ past) ≡ false

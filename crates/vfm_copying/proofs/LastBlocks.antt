@@ -20,7 +20,7 @@ use Rattle.vfm_plain.specs.Legal.{IsLegal}
 use Rattle.vfm_laws.proofs.Rising.{by_bool}
 use Rattle.vfm_copying.specs.Copies.{last_reading}
 use Rattle.vfm_copying.specs.Stale.{is_block_stale}
-use Rattle.vfm_copying.proofs.Tests.{least_none, least_passes, count_within, count_none, count_cleared}
+use Rattle.vfm_copying.proofs.Tests.{none_is, least_none, least_passes, count_within, count_none, count_cleared}
 use Rattle.vfm_copying.proofs.Conditions.{pass_parts, copy_parts, block_parts, dry_parts, joint_parts}
 use Rattle.vfm_copying.proofs.KnownBlocks.{fresh_blocks}
 use Rattle.vfm_copying.proofs.LastPass.{last_joint, no_delivery, joint_kept}
@@ -46,15 +46,11 @@ next_stale D past d b next = at (least_below (blocks_of D d) (λ k. is_unread d 
 none_stale : (D : Desc) (past : List Entry) (d : ℕ) → is_none (next_block D d past) ≡ true → (b : ℕ) → b < blocks_of D d → is_block_stale D d b past ≡ false
 none_stale D past d none b inside = at (least_below (blocks_of D d) (λ k. is_unread d k past)) refl none
   where
-    nothing : (o : Option ℕ) → is_none o ≡ true → o ≡ None
-    nothing None is = refl
-    nothing (Some k) is = absurd (false≢true is)
-
     at : (o : Option ℕ) → least_below (blocks_of D d) (λ k. is_unread d k past) ≡ o
         → is_none (option_or o (least_below (blocks_of D d) (λ k. is_dirty D d k past))) ≡ true → is_block_stale D d b past ≡ false
     at None found is =
         or_from (is_unread d b past) (is_dirty D d b past) (least_none (blocks_of D d) (λ k. is_unread d k past) b found inside)
-        (least_none (blocks_of D d) (λ k. is_dirty D d k past) b (nothing (least_below (blocks_of D d) (λ k. is_dirty D d k past)) is) inside)
+        (least_none (blocks_of D d) (λ k. is_dirty D d k past) b (none_is (least_below (blocks_of D d) (λ k. is_dirty D d k past)) is) inside)
     at (Some k) found is = absurd (false≢true is)
 
 -- what the last pass keeps of device d: each reading makes a block fresh, and none is stale once it has run dry
@@ -142,14 +138,10 @@ last_fresh D valid past legal last going here ended d b inside_d inside_b =
     kept : KeepsReadings D d past
     kept = keeps_readings D valid past legal last going here d
 
-    nothing : (o : Option ℕ) → is_none o ≡ true → o ≡ None
-    nothing None is = refl
-    nothing (Some k) is = absurd (false≢true is)
-
     over : has_part D d past ≡ false
     over =
         least_none (device_count D) (λ k. has_part D k past) d
-        (nothing (next_part D past) (and_parts (is_none (next_copy D past)) (is_none (next_part D past)) ended).1) inside_d
+        (none_is (next_part D past) (and_parts (is_none (next_copy D past)) (is_none (next_part D past)) ended).1) inside_d
 
 ended_read : (D : Desc) → IsValid D → (past : List Entry) → IsLegal D past → is_last_begun past ≡ true → is_no_pass_open D past ≡ true
     → is_aborted past ≡ false → is_resumed past ≡ false → (d b : ℕ) → d < device_count D → b < blocks_of D d

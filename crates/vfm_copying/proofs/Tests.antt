@@ -1,5 +1,5 @@
 -- Tests over the numbers below a bound: the least that passes, and how many do.
-use Rattle.std.proofs.Common.{◌≡◌, ℕ, zero, suc, ◌+◌, ◌<◌, ◌≤◌, Bool, true, false, if◌then◌else◌, Option, Some, None, refl, sym, ap, subst, arith, ⊎_elim}
+use Rattle.std.proofs.Common.{◌≡◌, ℕ, zero, suc, ◌+◌, ◌<◌, ◌≤◌, Bool, true, false, if◌then◌else◌, Option, Some, None, is_none, refl, sym, ap, subst, arith, ⊎_elim}
 use Rattle.std.proofs.lemmas.Bool.{or_parts, cases_lt, cases_eq, false≢true}
 use Rattle.vfm_base.specs.Least.{any_below, count_below, least_from, least_below}
 use Rattle.vfm_plain.specs.Condition.{is_exactly}
@@ -45,6 +45,11 @@ passes_from (suc n) i test k least =
 pub least_passes : (n : ℕ) (test : ℕ → Bool) (k : ℕ) → least_below n test ≡ Some k → (test k ≡ true) × (k < n)
 least_passes n test k least =
     let found = passes_from n 0 test k least in let bound : k < 0 + n = found.1 in (found.0, omega arith)
+
+-- an option that has nothing
+pub none_is : (o : Option ℕ) → is_none o ≡ true → o ≡ None
+none_is None is = refl
+none_is (Some k) is = absurd (false≢true is)
 
 -- an option that is exactly a number
 pub exactly : (n : ℕ) (o : Option ℕ) → is_exactly n o ≡ true → o ≡ Some n

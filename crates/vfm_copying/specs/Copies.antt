@@ -1,4 +1,5 @@
--- What the copying side has seen last: each page as its last copy took it, and each block as its last reading did.
+-- What the copying side has seen last: each page as its last copy took it, and each block as its last
+-- reading did.
 use Rattle.std.specs.Prelude.{ℕ, ◌==◌, ◌&&◌, if◌then◌else◌, List, [], ◌∷◌, Option, Some, None}
 use Rattle.vfm_types.specs.declared.entry.Entry.{Entry}
 use Rattle.vfm_types.specs.declared.entry.Entry.TheVariants.{Copy, Block}

@@ -25,7 +25,8 @@ is_block_sent D d b past = are_taken (last_reading D d b past) (block_bytes (joi
 abbrev pub is_all_sent : Desc → List Entry → Bool
 is_all_sent D past =
     all_below D.pages (λ p. is_page_sent D p past)
-    && all_below (device_count D) (λ d. all_below (block_count (shape_at D d)) (λ b. is_block_sent D d b past))
+    && all_below (device_count D)
+    (λ d. all_below (block_count (shape_at D d)) (λ b. is_block_sent D d b past))
 
 -- the same of a journal, oldest entry first
 abbrev pub is_sent_run : Desc → List Entry → Bool

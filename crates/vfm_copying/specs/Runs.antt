@@ -82,59 +82,61 @@ pair =
       devices = writer ∷ target ∷ [];
     }
 
--- the disk is marked for its second write when that is issued, so the report (place 8) takes the mark away before the
--- write comes; the last pass goes on to the block (place 19) as if no page were left
+-- the disk is marked for its second write when that is issued, so the report (place 8) takes the mark away
+-- before the write comes; the last pass goes on to the block (place 19) as if no page were left
 abbrev pub marks_at_issue : List Entry
 marks_at_issue =
-    Begin ∷ Pass 1 ∷ Copy 0 ∷ Copy 1 ∷ Issue 0 0 ∷ Deliver 0 0 ∷ Complete 0 0 ∷ Issue 0 1 ∷ Report 0 ∷ Pass 2 ∷ Copy 0
-    ∷ Deliver 0 1 ∷ Complete 0 1 ∷ Hold 0 Stop ∷ Arc 0 Stop ∷ Arc 0 StopCopy ∷ Joint ∷ Report 0 ∷ Pass 3 ∷ Block 0 0 ∷ []
+    Begin ∷ Pass 1 ∷ Copy 0 ∷ Copy 1 ∷ Issue 0 0 ∷ Deliver 0 0 ∷ Complete 0 0 ∷ Issue 0 1 ∷ Report 0
+    ∷ Pass 2 ∷ Copy 0 ∷ Deliver 0 1 ∷ Complete 0 1 ∷ Hold 0 Stop ∷ Arc 0 Stop ∷ Arc 0 StopCopy ∷ Joint
+    ∷ Report 0 ∷ Pass 3 ∷ Block 0 0 ∷ []
 
 -- the disk reports again (place 8) before the pass that its first report was for
 abbrev pub reports_twice : List Entry
 reports_twice =
-    Begin ∷ Pass 1 ∷ Copy 0 ∷ Copy 1 ∷ Issue 0 0 ∷ Deliver 0 0 ∷ Complete 0 0 ∷ Report 0 ∷ Report 0 ∷ Pass 2 ∷ Hold 0 Stop
-    ∷ Arc 0 Stop ∷ Arc 0 StopCopy ∷ Joint ∷ Report 0 ∷ Pass 3 ∷ Block 0 0 ∷ []
+    Begin ∷ Pass 1 ∷ Copy 0 ∷ Copy 1 ∷ Issue 0 0 ∷ Deliver 0 0 ∷ Complete 0 0 ∷ Report 0 ∷ Report 0
+    ∷ Pass 2 ∷ Hold 0 Stop ∷ Arc 0 Stop ∷ Arc 0 StopCopy ∷ Joint ∷ Report 0 ∷ Pass 3 ∷ Block 0 0 ∷ []
 
 -- the last pass begins (place 11) with no report
 abbrev pub passes_unreported : List Entry
 passes_unreported =
-    Begin ∷ Pass 1 ∷ Copy 0 ∷ Copy 1 ∷ Issue 0 0 ∷ Deliver 0 0 ∷ Complete 0 0 ∷ Hold 0 Stop ∷ Arc 0 Stop ∷ Arc 0 StopCopy
-    ∷ Joint ∷ Pass 2 ∷ Block 0 0 ∷ []
+    Begin ∷ Pass 1 ∷ Copy 0 ∷ Copy 1 ∷ Issue 0 0 ∷ Deliver 0 0 ∷ Complete 0 0 ∷ Hold 0 Stop ∷ Arc 0 Stop
+    ∷ Arc 0 StopCopy ∷ Joint ∷ Pass 2 ∷ Block 0 0 ∷ []
 
 -- the disk reports for the last pass (place 4) before it has stopped
 abbrev pub reports_early : List Entry
 reports_early =
-    Begin ∷ Pass 1 ∷ Copy 0 ∷ Copy 1 ∷ Report 0 ∷ Issue 0 0 ∷ Deliver 0 0 ∷ Complete 0 0 ∷ Hold 0 Stop ∷ Arc 0 Stop
-    ∷ Arc 0 StopCopy ∷ Joint ∷ Pass 2 ∷ Block 0 0 ∷ []
+    Begin ∷ Pass 1 ∷ Copy 0 ∷ Copy 1 ∷ Report 0 ∷ Issue 0 0 ∷ Deliver 0 0 ∷ Complete 0 0 ∷ Hold 0 Stop
+    ∷ Arc 0 Stop ∷ Arc 0 StopCopy ∷ Joint ∷ Pass 2 ∷ Block 0 0 ∷ []
 
 -- page 1 is copied (place 9) before page 0, which is then taken as copied
 abbrev pub skips_a_page : List Entry
 skips_a_page =
-    Begin ∷ Issue 0 0 ∷ Deliver 0 0 ∷ Complete 0 0 ∷ Hold 0 Stop ∷ Arc 0 Stop ∷ Arc 0 StopCopy ∷ Joint ∷ Pass 1 ∷ Copy 1
-    ∷ Block 0 0 ∷ []
+    Begin ∷ Issue 0 0 ∷ Deliver 0 0 ∷ Complete 0 0 ∷ Hold 0 Stop ∷ Arc 0 Stop ∷ Arc 0 StopCopy ∷ Joint
+    ∷ Pass 1 ∷ Copy 1 ∷ Block 0 0 ∷ []
 
 -- the block that was written after it was read is taken as read (place 22)
 abbrev pub forgets_a_block : List Entry
 forgets_a_block =
-    Begin ∷ Arc 1 PreCopy ∷ Pass 1 ∷ Copy 0 ∷ Block 1 0 ∷ Issue 0 0 ∷ Deliver 0 0 ∷ Complete 0 0 ∷ Hold 0 RunningP2p
-    ∷ Arc 0 RunningP2p ∷ Hold 1 PreCopyP2p ∷ Arc 1 PreCopyP2p ∷ Hold 0 Stop ∷ Arc 0 Stop ∷ Hold 1 StopCopy ∷ Arc 1 StopCopy
-    ∷ Arc 0 StopCopy ∷ Joint ∷ Report 0 ∷ Report 1 ∷ Pass 2 ∷ Block 0 0 ∷ Dry 1 ∷ []
+    Begin ∷ Arc 1 PreCopy ∷ Pass 1 ∷ Copy 0 ∷ Block 1 0 ∷ Issue 0 0 ∷ Deliver 0 0 ∷ Complete 0 0
+    ∷ Hold 0 RunningP2p ∷ Arc 0 RunningP2p ∷ Hold 1 PreCopyP2p ∷ Arc 1 PreCopyP2p ∷ Hold 0 Stop
+    ∷ Arc 0 Stop ∷ Hold 1 StopCopy ∷ Arc 1 StopCopy ∷ Arc 0 StopCopy ∷ Joint ∷ Report 0 ∷ Report 1
+    ∷ Pass 2 ∷ Block 0 0 ∷ Dry 1 ∷ []
 
 -- the destination takes over (place 11) after a pass that ended before the joint stop
 abbrev pub resumes_early : List Entry
 resumes_early =
-    Begin ∷ Pass 1 ∷ Copy 0 ∷ Copy 1 ∷ Issue 0 0 ∷ Deliver 0 0 ∷ Complete 0 0 ∷ Hold 0 Stop ∷ Arc 0 Stop ∷ Arc 0 StopCopy
-    ∷ Joint ∷ Resume ∷ []
+    Begin ∷ Pass 1 ∷ Copy 0 ∷ Copy 1 ∷ Issue 0 0 ∷ Deliver 0 0 ∷ Complete 0 0 ∷ Hold 0 Stop ∷ Arc 0 Stop
+    ∷ Arc 0 StopCopy ∷ Joint ∷ Resume ∷ []
 
 -- the destination takes over (place 13) in the middle of the last pass
 abbrev pub resumes_in_pass : List Entry
 resumes_in_pass =
-    Begin ∷ Pass 1 ∷ Copy 0 ∷ Copy 1 ∷ Issue 0 0 ∷ Deliver 0 0 ∷ Complete 0 0 ∷ Hold 0 Stop ∷ Arc 0 Stop ∷ Arc 0 StopCopy
-    ∷ Joint ∷ Report 0 ∷ Pass 2 ∷ Resume ∷ []
+    Begin ∷ Pass 1 ∷ Copy 0 ∷ Copy 1 ∷ Issue 0 0 ∷ Deliver 0 0 ∷ Complete 0 0 ∷ Hold 0 Stop ∷ Arc 0 Stop
+    ∷ Arc 0 StopCopy ∷ Joint ∷ Report 0 ∷ Pass 2 ∷ Resume ∷ []
 
 -- what the first of these is when the page is copied again: legal, and nothing is lost
 abbrev pub copies_again : List Entry
 copies_again =
-    Begin ∷ Pass 1 ∷ Copy 0 ∷ Copy 1 ∷ Issue 0 0 ∷ Deliver 0 0 ∷ Complete 0 0 ∷ Issue 0 1 ∷ Report 0 ∷ Pass 2 ∷ Copy 0
-    ∷ Deliver 0 1 ∷ Complete 0 1 ∷ Hold 0 Stop ∷ Arc 0 Stop ∷ Arc 0 StopCopy ∷ Joint ∷ Report 0 ∷ Pass 3 ∷ Copy 0
-    ∷ Block 0 0 ∷ Resume ∷ []
+    Begin ∷ Pass 1 ∷ Copy 0 ∷ Copy 1 ∷ Issue 0 0 ∷ Deliver 0 0 ∷ Complete 0 0 ∷ Issue 0 1 ∷ Report 0
+    ∷ Pass 2 ∷ Copy 0 ∷ Deliver 0 1 ∷ Complete 0 1 ∷ Hold 0 Stop ∷ Arc 0 Stop ∷ Arc 0 StopCopy ∷ Joint
+    ∷ Report 0 ∷ Pass 3 ∷ Copy 0 ∷ Block 0 0 ∷ Resume ∷ []

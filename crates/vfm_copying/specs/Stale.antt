@@ -1,5 +1,5 @@
--- Which pages and blocks may have other bytes now than when they were copied or read last, as far as sets, logs and marks
--- tell.
+-- Which pages and blocks may have other bytes now than when they were copied or read last, as far as sets,
+-- logs and marks tell.
 use Rattle.std.specs.Prelude.{ℕ, ◌&&◌, ◌||◌, not, Bool, List}
 use Rattle.std.specs.List.{list_any}
 use Rattle.vfm_types.specs.declared.entry.Entry.{Entry}
@@ -14,7 +14,8 @@ use Rattle.vfm_types.specs.Blocks.{is_unread, is_dirty}
 abbrev pub is_left_to_copy : Desc → ℕ → List Entry → Bool
 is_left_to_copy D p past = is_in_set D p past && not (is_copied p past)
 
--- page p is gathered from device d for the next pass: the report that d made since the newest one began gave it
+-- page p is gathered from device d for the next pass: the report that d made since the newest one began
+-- gave it
 abbrev pub is_gathered : Desc → ℕ → ℕ → List Entry → Bool
 is_gathered D d p past = has_reported d past && was_reported D d p past
 
@@ -36,7 +37,8 @@ is_write_known D p d past = is_marked D d p past || is_gathered D d p past || is
 
 -- page p may have changed since its last copy
 abbrev pub is_page_stale : Desc → ℕ → List Entry → Bool
-is_page_stale D p past = is_left_to_copy D p past || any_below (device_count D) (λ d. is_write_known D p d past)
+is_page_stale D p past =
+    is_left_to_copy D p past || any_below (device_count D) (λ d. is_write_known D p d past)
 
 -- block b of device d may have changed since its last reading: it was never read, or was written since
 abbrev pub is_block_stale : Desc → ℕ → ℕ → List Entry → Bool

@@ -1,4 +1,5 @@
-//! The end of the last pass: what was copied and read last is the machine at the joint stop, whatever came after it.
+//! The end of the last pass: what was copied and read last is the machine at the joint stop, whatever came
+//! after it.
 
 ghost use Rattle.std.specs.Prelude.{◌≡◌, ℕ, ◌<◌, List, ◌∷◌, Some, IsTrue, IsFalse};
 ghost use Rattle.vfm_types.specs.declared.desc.Desc.{Desc};
@@ -24,7 +25,8 @@ pub fn last_pass_copies_joint_pages()
 /// At the end of the last pass each block was read last as it stands at the joint stop.
 pub fn last_pass_reads_joint_blocks()
     ensures { (D : Desc) (past : List Entry) (d b : ℕ) → IsValid D → IsLegal D past
-        → IsTrue (is_last_begun past) → IsTrue (is_no_pass_open D past) → d < device_count D → b < block_count (shape_at D d)
+        → IsTrue (is_last_begun past) → IsTrue (is_no_pass_open D past) → d < device_count D
+        → b < block_count (shape_at D d)
         → last_reading D d b past ≡ Some (block_bytes (joint_machine D past) d b) }
 {}
 
@@ -34,14 +36,17 @@ pub fn last_pass_sends_joint_machine()
         → IsTrue (is_last_begun past) → IsTrue (is_no_pass_open D past) → IsTrue (is_all_sent D past) }
 {}
 
-/// A report that was made before the joint stop doesn't count for the last pass: as the machine is found standing, no device
-/// has reported since the newest pass began.
+/// A report that was made before the joint stop doesn't count for the last pass: as the machine is found
+/// standing, no device has reported since the newest pass began.
 pub fn reports_before_joint_are_void()
-    ensures { (D : Desc) (past : List Entry) (d : ℕ) → IsValid D → IsLegal D (Joint ∷ past) → IsFalse (has_reported d past) }
+    ensures { (D : Desc) (past : List Entry) (d : ℕ) → IsValid D → IsLegal D (Joint ∷ past)
+        → IsFalse (has_reported d past) }
 {}
 
-/// From the joint stop on, until the source gives up or the destination takes over, the machine is the one at the stop.
+/// From the joint stop on, until the source gives up or the destination takes over, the machine is the one
+/// at the stop.
 pub fn machine_stands_from_joint()
     ensures { (D : Desc) (past : List Entry) → IsValid D → IsLegal D past
-        → IsTrue (is_joint past) → IsFalse (is_aborted past) → IsFalse (is_resumed past) → machine_of D past ≡ joint_machine D past }
+        → IsTrue (is_joint past) → IsFalse (is_aborted past) → IsFalse (is_resumed past)
+        → machine_of D past ≡ joint_machine D past }
 {}

@@ -1,6 +1,7 @@
-//! The copying law of legal runs: at the end of the last pass every page was copied last, and every block read last, as it
-//! stands at the joint stop. Each law is a function without a body whose contract states it; the definitions are those of
-//! `vfm_types` and `vfm_plain`, and of this crate what was copied and read last, and what of it may have changed since.
+//! The copying law of legal runs: at the end of the last pass every page was copied last, and every block
+//! read last, as it stands at the joint stop. Each law is a function without a body whose contract states
+//! it; the definitions are those of `vfm_types` and `vfm_plain`, and of this crate what was copied and read
+//! last, and what of it may have changed since.
 #![tactic(auto)]
 
 mod changed;

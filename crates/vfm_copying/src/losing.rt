@@ -1,5 +1,5 @@
-//! Why each condition that the copying law rests on stands: for each a short run that loses a write, and that breaks
-//! nothing but this condition.
+//! Why each condition that the copying law rests on stands: for each a short run that loses a write, and
+//! that breaks nothing but this condition.
 
 ghost use Rattle.std.specs.Prelude.{◌≡◌, ℕ, ◌≤◌, [], ◌∷◌, Some, None, IsTrue, IsFalse};
 ghost use Rattle.vfm_types.specs.declared.entry.Rule.TheVariants.{Pages, Blocks, Joint};
@@ -15,8 +15,8 @@ pub fn runs_have_valid_machines()
     ensures pair { IsValid pair }
 {}
 
-/// Marked when it is issued and not when it is complete, a write is lost that comes after the report in between: the page is
-/// still due when the last pass goes on to the blocks.
+/// Marked when it is issued and not when it is complete, a write is lost that comes after the report in
+/// between: the page is still due when the last pass goes on to the blocks.
 pub fn mark_at_issue()
     ensures refused { broken (lone 2) marks_at_issue ≡ Some (19, Blocks) }
     ensures alone { faults_of (lone 2) marks_at_issue ≡ (19, Blocks) ∷ [] }
@@ -37,23 +37,24 @@ pub fn pass_without_report()
     ensures lost { IsFalse (is_sent_run (lone 1) passes_unreported) }
 {}
 
-/// A report for the last pass that is made before the devices have stopped loses what they write after it: it is refused.
+/// A report for the last pass that is made before the devices have stopped loses what they write after it:
+/// it is refused.
 pub fn report_before_stop()
     ensures refused { broken (lone 1) reports_early ≡ Some (4, Pages) }
     ensures alone { faults_of (lone 1) reports_early ≡ (4, Pages) ∷ [] }
     ensures lost { IsFalse (is_sent_run (lone 1) reports_early) }
 {}
 
-/// Where a page is copied that isn't the least one due, the least is lost if all below are taken as copied: the copy is
-/// refused, and so is the block that comes before the page.
+/// Where a page is copied that isn't the least one due, the least is lost if all below are taken as copied:
+/// the copy is refused, and so is the block that comes before the page.
 pub fn page_skipped()
     ensures refused { broken (lone 0) skips_a_page ≡ Some (9, Pages) }
     ensures alone { faults_of (lone 0) skips_a_page ≡ (9, Pages) ∷ (10, Blocks) ∷ [] }
     ensures lost { IsFalse (is_sent_run (lone 0) skips_a_page) }
 {}
 
-/// A block that was written after it was read is dirty until it is read again: a device that says that it has none to read
-/// is refused.
+/// A block that was written after it was read is dirty until it is read again: a device that says that it
+/// has none to read is refused.
 pub fn dry_with_dirty_block()
     ensures refused { broken pair forgets_a_block ≡ Some (22, Blocks) }
     ensures alone { faults_of pair forgets_a_block ≡ (22, Blocks) ∷ [] }
@@ -74,7 +75,8 @@ pub fn resume_in_last_pass()
     ensures lost { IsFalse (is_sent_run (lone 1) resumes_in_pass) }
 {}
 
-/// The first of these runs with the page copied once more, as the rules ask: it is legal, and nothing is lost.
+/// The first of these runs with the page copied once more, as the rules ask: it is legal, and nothing is
+/// lost.
 pub fn copy_again_loses_nothing()
     ensures legal { broken (lone 2) copies_again ≡ None }
     ensures sent { IsTrue (is_sent_run (lone 2) copies_again) }

@@ -1,5 +1,5 @@
-//! What is sent for legal lists, and the verdict on it: laws that join what was copied and read last to the streams that
-//! carry it. Each is a function without a body whose contract states it.
+//! What is sent for legal lists, and the verdict on it: laws that join what was copied and read last to the
+//! streams that carry it. Each is a function without a body whose contract states it.
 #![tactic(auto)]
 
 mod sent;

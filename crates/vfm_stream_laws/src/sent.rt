@@ -21,7 +21,8 @@ pub fn sent_records_load_joint_machine()
         → loaded D (λ s. records_of s (sent D past)) ≡ joint_machine D past }
 {}
 
-/// Where the last pass has ended, each record that is sent is one of its stream and can stand behind those before it.
+/// Where the last pass has ended, each record that is sent is one of its stream and can stand behind those
+/// before it.
 pub fn sent_records_fit()
     ensures { (D : Desc) (past : List Entry) (s : ℕ) → IsValid D → IsLegal D past
         → IsTrue (is_last_begun past) → IsTrue (is_no_pass_open D past) → s ≤ device_count D
@@ -39,5 +40,6 @@ pub fn share_goes_on()
 /// Once the last pass has ended nothing more is sent, whatever legal entry follows.
 pub fn sent_stays_after_last_pass()
     ensures { (D : Desc) (past : List Entry) (entry : Entry) → IsLegal D (entry ∷ past)
-        → IsTrue (is_last_begun past) → IsTrue (is_no_pass_open D past) → sent D (entry ∷ past) ≡ sent D past }
+        → IsTrue (is_last_begun past) → IsTrue (is_no_pass_open D past)
+        → sent D (entry ∷ past) ≡ sent D past }
 {}

@@ -13,13 +13,18 @@ ghost use Rattle.vfm_streams.specs.Packets.{ended_share};
 
 /// Each record that is sent is of a stream that there is, and its index fits its field with room to spare.
 pub fn indexes_fit_their_field()
-    ensures stream { (D : Desc) (past : List Entry) → IsLegal D past → AllByRecursion (λ x. x.stream ≤ device_count D) (sent D past) }
-    ensures index { (D : Desc) (past : List Entry) → IsValid D → IsLegal D past → AllByRecursion (λ x. x.index < 2 ^ 32) (sent D past) }
-    ensures few { (D : Desc) (past : List Entry) → IsValid D → IsLegal D past → AllByRecursion (λ x. x.index < 83065) (sent D past) }
+    ensures stream { (D : Desc) (past : List Entry) → IsLegal D past
+        → AllByRecursion (λ x. x.stream ≤ device_count D) (sent D past) }
+    ensures index { (D : Desc) (past : List Entry) → IsValid D → IsLegal D past
+        → AllByRecursion (λ x. x.index < 2 ^ 32) (sent D past) }
+    ensures few { (D : Desc) (past : List Entry) → IsValid D → IsLegal D past
+        → AllByRecursion (λ x. x.index < 83065) (sent D past) }
 {}
 
 /// What a channel carries, with its end, is below 53,000,000 bytes, and so within the limit of a channel.
 pub fn channels_stay_below_limit()
-    ensures below { (D : Desc) (past : List Entry) (k : ℕ) → IsValid D → IsLegal D past → length (ended_share D past k) < 53000000 }
-    ensures within { (D : Desc) (past : List Entry) (k : ℕ) → IsValid D → IsLegal D past → length (ended_share D past k) ≤ channel_limit }
+    ensures below { (D : Desc) (past : List Entry) (k : ℕ) → IsValid D → IsLegal D past
+        → length (ended_share D past k) < 53000000 }
+    ensures within { (D : Desc) (past : List Entry) (k : ℕ) → IsValid D → IsLegal D past
+        → length (ended_share D past k) ≤ channel_limit }
 {}

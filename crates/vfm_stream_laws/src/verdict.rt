@@ -17,14 +17,16 @@ ghost use Rattle.vfm_streams.specs.Packets.{lane_packets, ended_share};
 ghost use Rattle.vfm_streams.specs.Brought.{BringsSent, lane_reading, lane_readings};
 ghost use Rattle.vfm_streams.specs.Verdict.{Loads, Expects, refused_channel, brought, verdict_on, verdict};
 
-/// Channels none of which is refused, and which bring what was sent, each packet once, in any order and on whichever
-/// channel, give the machine at the joint stop.
+/// Channels none of which is refused, and which bring what was sent, each packet once, in any order and on
+/// whichever channel, give the machine at the joint stop.
 pub fn brought_packets_give_joint_machine()
-    ensures packets { (D : Desc) (past : List Entry) (limit : ℕ) (readings : List Reading) → IsValid D → IsLegal D past
+    ensures packets { (D : Desc) (past : List Entry) (limit : ℕ) (readings : List Reading) → IsValid D
+        → IsLegal D past
         → IsTrue (is_last_begun past) → IsTrue (is_no_pass_open D past)
         → refused_channel limit 0 readings ≡ None → BringsSent D (sent D past) (brought readings)
         → verdict_on D limit readings ≡ Loads (joint_machine D past) }
-    ensures bytes { (D : Desc) (past : List Entry) (e : Expect) (channels : List (List ℕ)) → IsValid D → IsLegal D past
+    ensures bytes { (D : Desc) (past : List Entry) (e : Expect) (channels : List (List ℕ)) → IsValid D
+        → IsLegal D past
         → IsTrue (is_last_begun past) → IsTrue (is_no_pass_open D past)
         → refused_channel channel_limit 0 (map (reading e) channels) ≡ None
         → BringsSent D (sent D past) (brought (map (reading e) channels))
@@ -48,5 +50,6 @@ pub fn ended_shares_give_joint_machine()
         → verdict_on D limit (lane_readings D (sent D past)) ≡ Loads (joint_machine D past) }
     ensures bytes { (D : Desc) (past : List Entry) (e : Expect) → IsValid D → IsLegal D past
         → IsTrue (is_last_begun past) → IsTrue (is_no_pass_open D past) → Expects D e
-        → verdict D e (map (ended_share D past) (range_with_len 0 D.channels)) ≡ Loads (joint_machine D past) }
+        → verdict D e (map (ended_share D past) (range_with_len 0 D.channels))
+        ≡ Loads (joint_machine D past) }
 {}

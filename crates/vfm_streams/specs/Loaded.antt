@@ -1,5 +1,5 @@
--- The machine that records make: of each page and each block the record that came last, and the counts and the pending
--- requests of each device. The records of a stream are given newest first.
+-- The machine that records make: of each page and each block the record that came last, and the counts and
+-- the pending requests of each device. The records of a stream are given newest first.
 use Rattle.std.specs.Prelude.{ℕ, suc, ◌==◌, Bool, true, false, if◌then◌else◌, List, [], ◌∷◌, ◌++◌, map, Option, Some, None, unwrap_or}
 use Rattle.std.specs.List.{flat_map, range_with_len}
 use Rattle.vfm_types.specs.declared.desc.Desc.{Desc}
@@ -46,11 +46,13 @@ engine_pend (r ∷ older) = engine_pend older
 
 -- the bytes of all blocks of device d
 abbrev pub loaded_bar : Desc → ℕ → List Record → List ℕ
-loaded_bar D d records = flat_map (λ b. unwrap_or (last_block b records) []) (range_with_len 0 (block_count (shape_at D d)))
+loaded_bar D d records =
+    flat_map (λ b. unwrap_or (last_block b records) []) (range_with_len 0 (block_count (shape_at D d)))
 
 -- device d
 abbrev pub loaded_device : Desc → ℕ → List Record → DeviceState
-loaded_device D d records = record (engine_device records) { bar = loaded_bar D d records; pending = all_pairs records }
+loaded_device D d records =
+    record (engine_device records) { bar = loaded_bar D d records; pending = all_pairs records }
 
 -- the machine that the records of all streams make
 abbrev pub loaded : Desc → (ℕ → List Record) → Machine

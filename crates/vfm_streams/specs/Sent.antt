@@ -1,5 +1,5 @@
--- What a source sends, newest first: a page at each Copy, a block at each Block, and once the last pass has ended the
--- records that close each stream. Stream 0 is memory, stream `d + 1` is device `d`.
+-- What a source sends, newest first: a page at each Copy, a block at each Block, and once the last pass has
+-- ended the records that close each stream. Stream 0 is memory, stream `d + 1` is device `d`.
 use Rattle.std.specs.Prelude.{◌≡◌, ℕ, zero, suc, ◌==◌, ◌&&◌, if◌then◌else◌, List, [], ◌∷◌, length, map, take, drop}
 use Rattle.vfm_types.specs.declared.entry.Entry.{Entry}
 use Rattle.vfm_types.specs.declared.entry.Entry.TheVariants.{Copy as CopyOf, Block as BlockOf}
@@ -40,8 +40,10 @@ push_all s (r ∷ records) sent = push_all s records (push s r sent)
 -- what the passes sent, with the bytes as they stood at each entry
 abbrev pub sent_in_passes : Desc → List Entry → List Sent
 sent_in_passes D [] = []
-sent_in_passes D (CopyOf p ∷ past) = push 0 (Page p (page_bytes (machine_of D past) p)) (sent_in_passes D past)
-sent_in_passes D (BlockOf d b ∷ past) = push (suc d) (Block b (block_bytes (machine_of D past) d b)) (sent_in_passes D past)
+sent_in_passes D (CopyOf p ∷ past) =
+    push 0 (Page p (page_bytes (machine_of D past) p)) (sent_in_passes D past)
+sent_in_passes D (BlockOf d b ∷ past) =
+    push (suc d) (Block b (block_bytes (machine_of D past) d b)) (sent_in_passes D past)
 sent_in_passes D (entry ∷ past) = sent_in_passes D past
 
 -- a list cut into at most so many pieces of this size, of which the last may be shorter
@@ -80,5 +82,6 @@ with_all_closed D m sent = with_devices_closed D m (device_count D) (push 0 (Con
 -- all that is sent: the closing records are those of the machine at the joint stop
 abbrev pub sent : Desc → List Entry → List Sent
 sent D past =
-    if is_last_begun past && is_no_pass_open D past then with_all_closed D (joint_machine D past) (sent_in_passes D past)
+    if is_last_begun past && is_no_pass_open D past
+    then with_all_closed D (joint_machine D past) (sent_in_passes D past)
     else sent_in_passes D past

@@ -1,5 +1,5 @@
--- The verdict on all channels of a move: the refusal of the least refused channel, else of the least refused stream, else
--- the machine that they load.
+-- The verdict on all channels of a move: the refusal of the least refused channel, else of the least
+-- refused stream, else the machine that they load.
 use Rattle.std.specs.Prelude.{◌≡◌, ℕ, zero, suc, ◌+◌, ◌*◌, min, List, [], ◌∷◌, map, Option, Some, None}
 use Rattle.std.specs.List.{flat_map}
 use Rattle.std.specs.Option.{option_or, option_map}
@@ -55,7 +55,8 @@ refused_channel limit k (r ∷ readings) =
 abbrev pub refused_stream : Desc → List Packet → ℕ → ℕ → Option Refusal
 refused_stream D packets s zero = None
 refused_stream D packets s (suc more) =
-    option_or (option_map (stream_refusal s) (stream_fault D s (stream_packets s packets))) (refused_stream D packets (s + 1) more)
+    option_or (option_map (stream_refusal s) (stream_fault D s (stream_packets s packets)))
+    (refused_stream D packets (s + 1) more)
 
 -- the packets of all channels
 abbrev pub brought : List Reading → List Packet
@@ -73,7 +74,8 @@ refuses_or (Some refusal) m = Refuses refusal
 -- the verdict on channels that were read, each of which may have so many bytes
 abbrev pub verdict_on : Desc → ℕ → List Reading → Verdict
 verdict_on D limit readings =
-    refuses_or (option_or (refused_channel limit 0 readings) (refused_stream D (brought readings) 0 (device_count D + 1)))
+    refuses_or
+    (option_or (refused_channel limit 0 readings) (refused_stream D (brought readings) 0 (device_count D + 1)))
     (loaded_from D (brought readings))
 
 -- the verdict on the bytes of all channels, each of which may have so many

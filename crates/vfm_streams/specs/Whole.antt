@@ -1,5 +1,5 @@
--- Whole streams: packets whose indexes are 0, 1 and so on, each once, of which the last alone is a config packet. Where a
--- stream isn't whole, the first of its gaps counts.
+-- Whole streams: packets whose indexes are 0, 1 and so on, each once, of which the last alone is a config
+-- packet. Where a stream isn't whole, the first of its gaps counts.
 use Rattle.std.specs.Prelude.{ℕ, ◌+◌, ◌==◌, ◌&&◌, Bool, true, false, if◌then◌else◌, nat_lt, max, List, [], ◌∷◌, map, filter, Option, Some, None, unwrap_or}
 use Rattle.std.specs.List.{list_any, range_with_len}
 use Rattle.std.specs.Option.{option_or, option_map}

@@ -17,12 +17,14 @@ pub fn what_is_sent_is_numbered()
 
 /// The channels together bring all that is sent, each packet once, and none of them is refused.
 pub fn channels_bring_all_that_is_sent()
-    ensures brings { (D : Desc) (all : List Sent) → 0 < D.channels → BringsSent D all (brought (lane_readings D all)) }
-    ensures unrefused { (D : Desc) (all : List Sent) (limit : ℕ) → refused_channel limit 0 (lane_readings D all) ≡ None }
+    ensures brings { (D : Desc) (all : List Sent) → 0 < D.channels
+        → BringsSent D all (brought (lane_readings D all)) }
+    ensures unrefused { (D : Desc) (all : List Sent) (limit : ℕ)
+        → refused_channel limit 0 (lane_readings D all) ≡ None }
 {}
 
-/// Packets that are among those sent, none twice and none missing, bring what was sent, in whatever order they came and on
-/// whichever channels.
+/// Packets that are among those sent, none twice and none missing, bring what was sent, in whatever order
+/// they came and on whichever channels.
 pub fn packets_once_each_bring_all_that_is_sent()
     ensures { (D : Desc) (all : List Sent) (packets : List Packet) → IsNumbered all
         → AllByRecursion (IsOfSent D all) packets
