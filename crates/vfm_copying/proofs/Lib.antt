@@ -1,0 +1,13 @@
+pub mod Tests
+pub mod Conditions
+pub mod PageWrites
+pub mod Delivered
+pub mod KnownPages
+pub mod BlockWrites
+pub mod KnownBlocks
+pub mod Decided
+pub mod LastPass
+pub mod LastBlocks
+pub mod FewCopies
+pub mod AllSent
+pub mod RunsValid
