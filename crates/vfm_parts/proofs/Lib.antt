@@ -1,0 +1,10 @@
+pub mod Listed
+pub mod Sets
+pub mod Words
+pub mod Faults
+pub mod Allowed
+pub mod Gathered
+pub mod Delivered
+pub mod Deliver
+pub mod Changes
+pub mod Worlds
