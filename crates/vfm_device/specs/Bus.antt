@@ -1,0 +1,19 @@
+-- The requests that a device has on the bus, and where one of them stands among them.
+use Rattle.std.specs.Prelude.{◌≡◌, ℕ, ◌<◌, Bool, false, List, [], ◌∷◌, Option, Some, None, length, slice_index_or, suc, take, zero}
+use Rattle.vfm_types.specs.Outstanding.{Outstanding, is_outstanding}
+
+-- what stands where no request stands
+abbrev pub no_request : Outstanding
+no_request = record { number = 0; job = 0; is_delivered = false }
+
+-- request n stands at place k of these, and none of those before it has its number
+pub record StandsAt (n k : ℕ) (requests : List Outstanding) : Type 0 where
+  pub within : k < length requests
+  pub number : (slice_index_or requests k no_request).number ≡ n
+  pub first : is_outstanding n (take k requests) ≡ false
+
+-- the number of the request at place i of these, and whether it was delivered
+abbrev pub outstanding_at : List Outstanding → ℕ → Option (ℕ × Bool)
+outstanding_at [] i = None
+outstanding_at (r ∷ requests) zero = Some (r.number, r.is_delivered)
+outstanding_at (r ∷ requests) (suc i) = outstanding_at requests i

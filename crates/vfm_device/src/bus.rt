@@ -1,0 +1,223 @@
+//! The requests that a device has on the bus.
+
+ghost use Rattle.std.specs.Prelude.{◌≡◌, [], ◌∷◌, ◌++◌, ◌+◌, ◌<◌, ◌≤◌, ◌==◌, ◌&&◌, if◌then◌else◌, true, false, length, slice_index_or, take, vec_len, All, IfOk, IfSome, IfNone};
+ghost use Rattle.std.specs.List.{list_any};
+ghost use Rattle.vfm_types.specs.Desc.{no_job};
+ghost use Rattle.vfm_types.specs.Job.{is_fence};
+ghost use Rattle.vfm_types.specs.Outstanding.{complete_if, deliver_if, delivered_count, is_arrived, is_outstanding, is_undelivered, outstanding_job_or_zero, undelivered_count};
+ghost use Rattle.vfm_device.specs.Bus.{StandsAt, outstanding_at};
+
+use std::alloc::Global;
+use std::marker::Model;
+use vfm_types::{Jobs, NoMemory};
+
+/// The most requests that a device may have on the bus: the widest window.
+const WIDEST_WINDOW: usize = 8;
+
+/// A request on the bus: its number, the number of its job, and whether it has reached its target.
+#[derive(Clone, Copy, Debug)]
+pub struct Flight {
+    pub number: u32,
+    pub job: u32,
+    pub is_delivered: bool,
+}
+
+impl Model for Flight {
+    ghost use Rattle.vfm_types.specs.Outstanding.{Outstanding};
+
+    ghost Value = { Outstanding };
+
+    ghost view = { λ f. record { number = f.number; job = f.job; is_delivered = f.is_delivered } };
+
+    ghost inverse = { λ r. record { number = r.number; job = r.job; is_delivered = r.is_delivered } };
+}
+
+/// The requests on the bus, in the order of their issue; it has room for eight. Seen as the list of them.
+#[derive(Drop)]
+pub struct Bus {
+    flights: Vec<Flight>,
+}
+
+impl Model for Bus {
+    ghost use Rattle.std.specs.Prelude.{List, vec_capacity, ◌≤◌};
+    ghost use Rattle.vfm_types.specs.Outstanding.{Outstanding};
+
+    ghost Value = { List Outstanding };
+
+    ghost view = { λ b. b.flights.items };
+
+    ghost invariant = { λ b. 8 ≤ vec_capacity b.flights };
+}
+
+impl Bus {
+    /// A bus with nothing on it.
+    pub fn of(alloc: Global) -> Result<Bus, NoMemory>
+        ensures { IfOk result (λ bus. bus ≡ []) }
+    {
+        Ok(Bus {
+            flights: Vec::with_capacity(alloc, WIDEST_WINDOW)?,
+        })
+    }
+
+    /// How many requests are on it.
+    pub fn len(&self) -> usize
+        ensures { result ≡ length self.now }
+    {
+        self.flights.len()
+    }
+
+    /// The requests on it, in the order of their issue.
+    pub fn flights(&self) -> &[Flight]
+        ensures { result.now ≡ self.now }
+    {
+        &self.flights
+    }
+
+    /// The number of the request at place `i`, and whether it was delivered, if there is one.
+    #[tactic(auto, using(crate::proofs::OnBus::there, crate::proofs::OnBus::beyond))]
+    pub fn at(&self, i: usize) -> Option<(u32, bool)>
+        ensures { result ≡ outstanding_at self.now i }
+    {
+        if i < self.flights.len() {
+            let flight = self.flights[i];
+            return Some((flight.number, flight.is_delivered));
+        }
+        None
+    }
+
+    /// Puts a request on it, which is yet to be delivered.
+    pub fn push(&mut self, number: u32, job: u32)
+        requires { length self.old < 8 }
+        ensures { self.new ≡ self.old ++ (record { number = number; job = job; is_delivered = false }) ∷ [] }
+    {
+        self.flights.push_reserved(Flight {
+            number,
+            job,
+            is_delivered: false,
+        });
+    }
+
+    /// Whether request `n` is on it and is yet to be delivered.
+    #[tactic(auto, using(crate::proofs::OnBus::undelivered_at, crate::proofs::OnBus::undelivered_none))]
+    pub fn is_undelivered(&self, n: u32) -> bool
+        ensures { result ≡ is_undelivered n self.now }
+    {
+        match find(&self.flights, n) {
+            Some(k) => {
+                let flight = self.flights[k];
+                !flight.is_delivered
+            }
+            None => false,
+        }
+    }
+
+    /// Whether request `n` is on it and was delivered.
+    #[tactic(auto, using(crate::proofs::OnBus::arrived_at, crate::proofs::OnBus::arrived_none))]
+    pub fn is_arrived(&self, n: u32) -> bool
+        ensures { result ≡ is_arrived n self.now }
+    {
+        match find(&self.flights, n) {
+            Some(k) => {
+                let flight = self.flights[k];
+                flight.is_delivered
+            }
+            None => false,
+        }
+    }
+
+    /// The number of the job of request `n`, if that is on it.
+    #[tactic(auto, using(crate::proofs::OnBus::job_at_place, crate::proofs::OnBus::stands_outstanding))]
+    pub fn job(&self, n: u32) -> Option<u32>
+        ensures value { IfSome result (λ job. job ≡ outstanding_job_or_zero n self.now) }
+        ensures there { IfSome result (λ _. is_outstanding n self.now ≡ true) }
+        ensures none { IfNone result (is_outstanding n self.now ≡ false) }
+    {
+        let k = find(&self.flights, n)?;
+        let flight = self.flights[k];
+        Some(flight.job)
+    }
+
+    /// Notes that request `n` was delivered.
+    #[tactic(auto, using(crate::proofs::OnBus::deliver_at, crate::proofs::OnBus::deliver_none))]
+    pub fn deliver(&mut self, n: u32)
+        ensures { self.new ≡ deliver_if true n self.old }
+    {
+        if let Some(k) = find(&self.flights, n) {
+            let flight = self.flights[k];
+            self.flights[k] = Flight {
+                number: flight.number,
+                job: flight.job,
+                is_delivered: true,
+            };
+        }
+    }
+
+    /// Takes request `n` off it.
+    #[tactic(auto, using(crate::proofs::OnBus::complete_at, crate::proofs::OnBus::complete_none))]
+    pub fn complete(&mut self, n: u32)
+        ensures { self.new ≡ complete_if true n self.old }
+    {
+        if let Some(k) = find(&self.flights, n) {
+            let _ = self.flights.remove(k);
+        }
+    }
+
+    /// How many of its requests are yet to be delivered.
+    #[tactic(auto, using(crate::proofs::OnBus::undelivered_next))]
+    pub fn undelivered(&self) -> u32
+        requires { length self.now ≤ 8 }
+        ensures value { result ≡ undelivered_count self.now }
+        ensures most { result ≤ length self.now }
+    {
+        let mut count = 0;
+        for k in 0..self.flights.len() {
+            count += waiting(self.flights[k]);
+        }
+        count
+    }
+
+    /// How many of its requests were delivered.
+    #[tactic(auto, using(crate::proofs::Turns::counts_add))]
+    pub fn delivered(&self) -> u32
+        requires { length self.now ≤ 8 }
+        ensures { result ≡ delivered_count self.now }
+    {
+        self.flights.len() as u32 - self.undelivered()
+    }
+
+    /// Whether one of its requests is a fence.
+    pub fn has_fence(&self, jobs: &Jobs) -> bool
+        requires { All (λ r. r.job < length jobs.now) self.now }
+        ensures { result ≡ list_any (λ r. is_fence (slice_index_or jobs.now r.job no_job)) self.now }
+    {
+        for k in 0..self.flights.len() {
+            let flight = self.flights[k];
+            if jobs.at(flight.job).is_fence() {
+                return true;
+            }
+        }
+        false
+    }
+}
+
+// The place of request `n` among these.
+fn find(flights: &[Flight], n: u32) -> Option<usize>
+    ensures found { IfSome result (λ k. StandsAt n k flights.now) }
+    ensures none { IfNone result (is_outstanding n flights.now ≡ false) }
+{
+    for k in 0..flights.len() {
+        let flight = flights[k];
+        if flight.number == n {
+            return Some(k);
+        }
+    }
+    None
+}
+
+// One for a request that is yet to be delivered.
+fn waiting(flight: Flight) -> u32
+    ensures value { result ≡ (if flight.is_delivered then 0 else 1) }
+    ensures most { result ≤ 1 }
+{
+    if flight.is_delivered { 0 } else { 1 }
+}

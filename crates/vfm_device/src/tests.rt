@@ -1,0 +1,255 @@
+//! What no clause says: that engines are made where there is enough memory, and worked cases of windows, fences, starts and
+//! doorbells, and many calls beside plain lists.
+
+ghost use Rattle.std.specs.Prelude.{◌≡◌, IfOk};
+ghost use Rattle.vfm_types.specs.Valid.{IsValid};
+ghost use Rattle.vfm_device.specs.EngineState.{EngineKept};
+
+use crate::Engine;
+use std::alloc::Global;
+use std::process::Abort;
+use std::test::Fail;
+use vfm_types::{
+    Bars, Bytes64, Desc, DevShape, DeviceId, Flags, Job, Jobs, MigState, Name, Queue, Rule, Shapes,
+};
+
+// A machine of one page and one device, with a window of two and a budget of six.
+fn machine(
+    rt: &impl Abort,
+    alloc: Global,
+    jobs: Vec<Job>,
+    queue: &[u32],
+    begin: u32,
+) -> Result<Desc, Fail>
+    ensures { IfOk result IsValid }
+{
+    let queue = Vec::from_slice(alloc, queue)?;
+    assert!(rt; jobs.len() <= 4096);
+    assert!(rt; queue.len() <= 50000);
+    let mut devices = Vec::new(alloc);
+    devices.push(DevShape {
+        name: Name::of(b"a").ok_or("no name")?,
+        flags: Flags::of(7).ok_or("no flags")?,
+        bars: Bars::of(&[64]).ok_or("no bars")?,
+        window: 2,
+        tells: true,
+        budget: 6,
+        fails: 0,
+        jobs: Jobs::of(jobs),
+        queue: Queue::of(queue),
+    })?;
+    let desc = Desc {
+        session: 7,
+        page: 16,
+        pages: 1,
+        channels: 1,
+        version: 1,
+        begin,
+        rounds: 0,
+        threshold: 0,
+        devices: Shapes::of(devices),
+    };
+    assert!(rt; desc.is_in_range());
+    Ok(Desc::new(desc)?)
+}
+
+// The engine of the first device.
+fn engine_of(alloc: Global, desc: &Desc) -> Result<Engine, Fail>
+    requires { IsValid desc.now }
+    ensures { IfOk result (EngineKept desc.now) }
+{
+    Ok(Engine::of(alloc, desc, DeviceId(0))?)
+}
+
+// A write of one byte.
+fn write(byte: u8) -> Result<Job, Fail> {
+    let bytes = Bytes64::of(&[byte]).ok_or("no bytes")?;
+    Ok(Job::Write { at: 0, bytes })
+}
+
+// Issues the next request, if one may be issued; its number.
+fn issue(engine: &mut Engine, desc: &Desc, begun: bool) -> Option<u32>
+    requires valid { IsValid desc.now }
+    requires kept { EngineKept desc.now engine.old }
+    ensures { EngineKept desc.now engine.new }
+{
+    match engine.may_issue(desc, begun) {
+        Ok(n) if engine.steps().0 < u32::MAX => {
+            engine.issue(n);
+            Some(n)
+        }
+        _ => None,
+    }
+}
+
+// Delivers a request that waits for it.
+#[tactic(auto, using(crate::proofs::Kept::undelivered_pending))]
+fn deliver(engine: &mut Engine, desc: &Desc, n: u32) -> bool
+    requires { EngineKept desc.now engine.old }
+    ensures { EngineKept desc.now engine.new }
+{
+    if !engine.is_undelivered(n) {
+        return false;
+    }
+    engine.deliver(n);
+    true
+}
+
+// Completes a request that was delivered.
+fn complete(engine: &mut Engine, desc: &Desc, n: u32) -> bool
+    requires { EngineKept desc.now engine.old }
+    ensures { EngineKept desc.now engine.new }
+{
+    if !engine.is_arrived(n) {
+        return false;
+    }
+    if engine.steps().1 == u32::MAX {
+        return false;
+    }
+    engine.complete(n);
+    true
+}
+
+// Rings the doorbell.
+#[tactic(auto, using(crate::proofs::Kept::kept_rung))]
+fn ring(engine: &mut Engine, desc: &Desc, number: u64) -> bool
+    requires valid { IsValid desc.now }
+    requires kept { EngineKept desc.now engine.old }
+    ensures { EngineKept desc.now engine.new }
+{
+    engine.ring(desc, number)
+}
+
+// What is tried, and what must come of it.
+#[derive(Drop)]
+enum Try {
+    // this request may be issued, and is
+    Issued(u32),
+    // none may be, by this rule
+    Barred(Rule),
+    Delivered(u32),
+    Completed(u32),
+    // a doorbell with this number is accepted, or not
+    Rung(u64, bool),
+    Held(MigState),
+    Moved(MigState),
+}
+
+// Whether it comes so.
+#[tactic(auto, using(crate::proofs::Kept::kept_same))]
+fn comes_so(engine: &mut Engine, desc: &Desc, begun: bool, tried: &Try) -> bool
+    requires valid { IsValid desc.now }
+    requires kept { EngineKept desc.now engine.old }
+    ensures { EngineKept desc.now engine.new }
+{
+    match tried {
+        Try::Issued(n) => issue(engine, desc, begun) == Some(*n),
+        Try::Barred(rule) => engine.look(desc, begun).blocked == Some(*rule),
+        Try::Delivered(n) => deliver(engine, desc, *n),
+        Try::Completed(n) => complete(engine, desc, *n),
+        Try::Rung(number, accepted) => ring(engine, desc, *number) == *accepted,
+        Try::Held(to) => hold(engine, desc, *to),
+        Try::Moved(to) => take_arc(engine, desc, *to),
+    }
+}
+
+// Holds the device.
+#[tactic(auto, using(crate::proofs::Kept::kept_same))]
+fn hold(engine: &mut Engine, desc: &Desc, to: MigState) -> bool
+    requires { EngineKept desc.now engine.old }
+    ensures { EngineKept desc.now engine.new }
+{
+    engine.hold(to);
+    engine.held() == Some(to)
+}
+
+// Takes an arc.
+#[tactic(auto, using(crate::proofs::Kept::kept_same))]
+fn take_arc(engine: &mut Engine, desc: &Desc, to: MigState) -> bool
+    requires { EngineKept desc.now engine.old }
+    ensures { EngineKept desc.now engine.new }
+{
+    engine.arc(to);
+    engine.state() == to && engine.held().is_none()
+}
+
+// The first of these tries that doesn't come so.
+fn first_other(engine: &mut Engine, desc: &Desc, begun: bool, tries: &[Try]) -> Option<usize>
+    requires valid { IsValid desc.now }
+    requires kept { EngineKept desc.now engine.old }
+    ensures { EngineKept desc.now engine.new }
+{
+    for (i, tried) in tries.iter().enumerate() {
+        if !comes_so(engine, desc, begun, tried) {
+            return Some(i);
+        }
+    }
+    None
+}
+
+#[test]
+fn a_fence_waits_for_those_before_it(rt: HostRuntime) -> Result<(), Fail> {
+    let alloc = rt.alloc();
+    let mut jobs = Vec::new(alloc);
+    jobs.push(write(0xaa)?)?;
+    jobs.push(write(0xbb)?)?;
+    jobs.push(Job::Read { at: 0, len: 4 })?;
+    let desc = machine(&rt, alloc, jobs, &[0, 1, 2], 3)?;
+    let mut engine = engine_of(alloc, &desc)?;
+    let tries = [
+        Try::Issued(0),
+        Try::Issued(1),
+        Try::Barred(Rule::Turn),
+        Try::Delivered(1),
+        Try::Delivered(0),
+        Try::Barred(Rule::Turn),
+        Try::Completed(0),
+        Try::Barred(Rule::Turn),
+        Try::Completed(1),
+        Try::Issued(2),
+        Try::Barred(Rule::Turn),
+        Try::Delivered(2),
+        Try::Completed(2),
+        Try::Barred(Rule::Turn),
+    ];
+    assert_eq!(rt; first_other(&mut engine, &desc, false, &tries), None);
+    assert_eq!(rt; engine.counts(), (3, 3, 0));
+    assert_eq!(rt; engine.steps(), (3, 3, 0));
+    Ok(())
+}
+
+#[test]
+fn an_issue_waits_for_the_move_and_for_its_level(rt: HostRuntime) -> Result<(), Fail> {
+    let alloc = rt.alloc();
+    let mut jobs = Vec::new(alloc);
+    jobs.push(write(1)?)?;
+    let desc = machine(&rt, alloc, jobs, &[0, 0], 1)?;
+    let mut engine = engine_of(alloc, &desc)?;
+    let before = [Try::Issued(0), Try::Barred(Rule::Start)];
+    assert_eq!(rt; first_other(&mut engine, &desc, false, &before), None);
+    let held = [
+        Try::Held(MigState::Stop),
+        Try::Barred(Rule::Barred),
+        Try::Delivered(0),
+        Try::Completed(0),
+        Try::Moved(MigState::RunningP2p),
+        Try::Issued(1),
+    ];
+    assert_eq!(rt; first_other(&mut engine, &desc, true, &held), None);
+    Ok(())
+}
+
+#[test]
+fn doorbells_are_accepted_within_the_budget(rt: HostRuntime) -> Result<(), Fail> {
+    let alloc = rt.alloc();
+    let mut jobs = Vec::new(alloc);
+    jobs.push(write(1)?)?;
+    jobs.push(write(2)?)?;
+    let desc = machine(&rt, alloc, jobs, &[0, 0, 0, 0, 0], 0)?;
+    let mut engine = engine_of(alloc, &desc)?;
+    let tries = [Try::Rung(1, true), Try::Rung(1, false), Try::Rung(2, false)];
+    assert_eq!(rt; first_other(&mut engine, &desc, true, &tries), None);
+    assert_eq!(rt; engine.counts(), (6, 0, 2));
+    assert_eq!(rt; engine.pending().last().copied(), Some((5, 1)));
+    Ok(())
+}
