@@ -253,3 +253,173 @@ fn doorbells_are_accepted_within_the_budget(rt: HostRuntime) -> Result<(), Fail>
     assert_eq!(rt; engine.pending().last().copied(), Some((5, 1)));
     Ok(())
 }
+
+// The requests of an engine as plain lists: pending ones, those on the bus with whether each was delivered, and counts.
+#[derive(Drop)]
+struct Lists {
+    pending: Vec<(u32, u32)>,
+    bus: Vec<(u32, bool)>,
+    accepted: u32,
+    lost: u32,
+}
+
+impl Lists {
+    // The first pending request that isn't on the bus, if fewer than two are there.
+    fn next(&self) -> Option<u32> {
+        if self.bus.len() >= 2 {
+            return None;
+        }
+        for (n, _) in &self.pending {
+            if self.place(*n).is_none() {
+                return Some(*n);
+            }
+        }
+        None
+    }
+
+    // Where request n stands on the bus.
+    fn place(&self, n: u32) -> Option<usize> {
+        for k in 0..self.bus.len() {
+            if self.bus[k].0 == n {
+                return Some(k);
+            }
+        }
+        None
+    }
+
+    // Whether request n is on the bus, delivered or not.
+    fn is_there(&self, n: u32, delivered: bool) -> bool {
+        match self.place(n) {
+            Some(k) if k < self.bus.len() => self.bus[k].1 == delivered,
+            _ => false,
+        }
+    }
+
+    // Notes that request n was delivered.
+    fn deliver(&mut self, n: u32) {
+        self.pending.retain(|r| r.0 != n);
+        for request in self.bus.iter_mut() {
+            if request.0 == n {
+                request.1 = true;
+            }
+        }
+    }
+
+    // A doorbell with this number; whether it is accepted.
+    fn ring(&mut self, number: u32) -> Result<bool, Fail> {
+        if number < 2 && self.accepted < 6 {
+            self.pending.push((self.accepted, number))?;
+            self.accepted += 1;
+            return Ok(true);
+        }
+        self.lost = self.lost.saturating_add(1);
+        Ok(false)
+    }
+
+    // Whether the engine has these requests and counts.
+    fn are_of(&self, engine: &Engine) -> bool {
+        let (accepted, _, lost) = engine.counts();
+        engine.pending() == self.pending.as_slice()
+            && accepted == self.accepted
+            && lost == self.lost
+    }
+}
+
+// Whether the lists say the same of an issue.
+fn is_same_issue(engine: &mut Engine, desc: &Desc, lists: &mut Lists) -> Result<bool, Fail>
+    requires valid { IsValid desc.now }
+    requires kept { EngineKept desc.now engine.old }
+    ensures { EngineKept desc.now engine.new }
+{
+    let next = lists.next();
+    if let Some(n) = next {
+        lists.bus.push((n, false))?;
+    }
+    Ok(issue(engine, desc, true) == next)
+}
+
+// Whether they say the same of a delivery.
+fn is_same_delivery(engine: &mut Engine, desc: &Desc, lists: &mut Lists, n: u32) -> bool
+    requires { EngineKept desc.now engine.old }
+    ensures { EngineKept desc.now engine.new }
+{
+    let waits = lists.is_there(n, false);
+    if waits {
+        lists.deliver(n);
+    }
+    deliver(engine, desc, n) == waits
+}
+
+// Whether they say the same of a completion.
+fn is_same_completion(engine: &mut Engine, desc: &Desc, lists: &mut Lists, n: u32) -> bool
+    requires { EngineKept desc.now engine.old }
+    ensures { EngineKept desc.now engine.new }
+{
+    let arrived = lists.is_there(n, true);
+    if arrived {
+        lists.bus.retain(|r| r.0 != n);
+    }
+    complete(engine, desc, n) == arrived
+}
+
+// Whether they say the same of a doorbell.
+fn is_same_ring(
+    engine: &mut Engine,
+    desc: &Desc,
+    lists: &mut Lists,
+    number: u32,
+) -> Result<bool, Fail>
+    requires valid { IsValid desc.now }
+    requires kept { EngineKept desc.now engine.old }
+    ensures { EngineKept desc.now engine.new }
+{
+    let accepted = lists.ring(number)?;
+    Ok(ring(engine, desc, u64::from(number)) == accepted)
+}
+
+// One call that a random number picks, and whether the lists say the same of it.
+fn is_same_step(
+    engine: &mut Engine,
+    desc: &Desc,
+    lists: &mut Lists,
+    draw: u64,
+) -> Result<bool, Fail>
+    requires valid { IsValid desc.now }
+    requires kept { EngineKept desc.now engine.old }
+    ensures { EngineKept desc.now engine.new }
+{
+    let n = (draw / 4 % 6) as u32;
+    match draw % 4 {
+        0 => is_same_issue(engine, desc, lists),
+        1 => Ok(is_same_delivery(engine, desc, lists, n)),
+        2 => Ok(is_same_completion(engine, desc, lists, n)),
+        _ => is_same_ring(engine, desc, lists, n / 2),
+    }
+}
+
+#[test]
+fn an_engine_is_its_lists(rt: HostRuntime) -> Result<(), Fail> {
+    let alloc = rt.alloc();
+    let mut jobs = Vec::new(alloc);
+    jobs.push(write(1)?)?;
+    jobs.push(write(2)?)?;
+    let desc = machine(&rt, alloc, jobs, &[0, 1], 0)?;
+    let mut seed = 7u64;
+    for _ in 0..2_000u32 {
+        let mut engine = engine_of(alloc, &desc)?;
+        let mut lists = Lists {
+            pending: [(0, 0), (1, 1)].to_vec(alloc)?,
+            bus: Vec::new(alloc),
+            accepted: 2,
+            lost: 0,
+        };
+        for _ in 0..50u32 {
+            seed = seed
+                .wrapping_mul(6364136223846793005)
+                .wrapping_add(1442695040888963407);
+            assert!(rt; is_same_step(&mut engine, &desc, &mut lists, seed >> 33)?);
+            assert!(rt; lists.are_of(&engine));
+        }
+    }
+    Ok(())
+}
