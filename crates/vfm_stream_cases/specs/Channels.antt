@@ -1,8 +1,10 @@
 -- The channel of a worked move with one device, as packets and as bytes, and changed copies of it.
 use Rattle.std.specs.Prelude.{ℕ, ◌+◌, List, [], ◌∷◌, ◌++◌, reverse, take, drop, slice_set, slice_index_or, None}
+use Rattle.vfm_types.specs.declared.desc.Desc.{Desc}
 use Rattle.vfm_types.specs.declared.entry.Entry.{Entry}
 use Rattle.vfm_packet.specs.Packet.{Packet}
-use Rattle.vfm_packet.specs.Worked.{expected}
+use Rattle.vfm_packet.specs.Reading.{Reading}
+use Rattle.vfm_packet.specs.Worked.{expected, expected_sealed}
 use Rattle.vfm_record.specs.Record.{Record}
 use Rattle.vfm_record.specs.Packing.{end_of}
 use Rattle.vfm_cases.specs.One.{one, one_source}
@@ -37,12 +39,26 @@ with_packet i p = slice_set one_packets i p
 abbrev pub nth : ℕ → Packet
 nth i = slice_index_or one_packets i (end_of 1 7)
 
+-- a channel that was read to its end and brings these
+abbrev pub channel_of : List Packet → Reading
+channel_of packets = record { packets = packets; refusal = None }
+
 -- the verdict on one sound channel that brings these packets, and on one that brings these bytes
 abbrev pub judged_packets : List Packet → Verdict
-judged_packets packets = verdict_on one 67108864 (record { packets = packets; refusal = None } ∷ [])
+judged_packets packets = verdict_on one 67108864 (channel_of packets ∷ [])
 
 abbrev pub judged_bytes : List ℕ → Verdict
 judged_bytes bytes = verdict_within 67108864 one expected (bytes ∷ [])
+
+-- the same move in the second version of the packets
+abbrev pub one_sealed : Desc
+one_sealed = record one { version = 2 }
+
+abbrev pub sealed_channel : List ℕ
+sealed_channel = ended_share one_sealed one_past 0
+
+abbrev pub judged_sealed : List ℕ → Verdict
+judged_sealed bytes = verdict_within 67108864 one_sealed expected_sealed (bytes ∷ [])
 
 -- the stream and the index of a packet, and of a record that is sent
 abbrev pub place_of_packet : Packet → ℕ × ℕ

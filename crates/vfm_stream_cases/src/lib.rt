@@ -9,5 +9,6 @@ pub use moves::{
     pre_copied_device_sends_five_records, shares_of_two_channels,
 };
 pub use refusals::{
-    changed_channels_are_refused, changed_streams_are_refused, whole_channel_loads,
+    changed_channels_are_refused, changed_streams_are_refused, other_order_loads,
+    sealed_channels_are_refused, whole_channel_loads,
 };

@@ -1,18 +1,36 @@
 //! The verdict on the channel of a worked move, and on changed copies of it.
 
-ghost use Rattle.std.specs.Prelude.{◌≡◌, [], ◌∷◌, ◌++◌, replicate, take, drop, slice_set};
+ghost use Rattle.std.specs.Prelude.{◌≡◌, [], ◌∷◌, ◌++◌, replicate, take, drop, slice_set, reverse};
 ghost use Rattle.vfm_types.specs.Deliveries.{joint_machine};
 ghost use Rattle.vfm_packet.specs.Worked.{abort_packet};
 ghost use Rattle.vfm_record.specs.Record.{Page, Block, Engine, Pending, Config};
 ghost use Rattle.vfm_record.specs.Shape.{shape_digest};
 ghost use Rattle.vfm_cases.specs.One.{one};
-ghost use Rattle.vfm_streams.specs.Verdict.{Refuses, Loads};
-ghost use Rattle.vfm_stream_cases.specs.Channels.{one_past, one_packets, one_channel, packet_at, without_packet, with_packet, nth, judged_packets, judged_bytes};
+ghost use Rattle.vfm_streams.specs.Verdict.{Refuses, Loads, verdict_on};
+ghost use Rattle.vfm_stream_cases.specs.Channels.{one_past, one_packets, one_channel, packet_at, without_packet, with_packet, nth, channel_of, judged_packets, judged_bytes, sealed_channel, judged_sealed};
 
 /// The channel of the worked move loads the machine at the joint stop.
 pub fn whole_channel_loads()
     ensures packets { judged_packets one_packets ≡ Loads (joint_machine one one_past) }
     ensures bytes { judged_bytes one_channel ≡ Loads (joint_machine one one_past) }
+{}
+
+/// So do its packets in any order and on any channel: here the last first, all on the third of three.
+pub fn other_order_loads()
+    ensures { verdict_on one 67108864 (channel_of [] ∷ channel_of [] ∷ channel_of (reverse one_packets) ∷ [])
+        ≡ Loads (joint_machine one one_past) }
+{}
+
+/// In the second version of the packets a changed byte of a payload or of a seal is found in its channel.
+pub fn sealed_channels_are_refused()
+    ensures whole { judged_sealed sealed_channel ≡ Loads (joint_machine one one_past) }
+    ensures payload { judged_sealed (slice_set sealed_channel 60 1)
+        ≡ Refuses (record { code = 13; a = 0; b = 0 }) }
+    ensures seal { judged_sealed (slice_set sealed_channel 761 0)
+        ≡ Refuses (record { code = 13; a = 0; b = 690 }) }
+    ensures cut { judged_sealed (take 71 sealed_channel) ≡ Refuses (record { code = 7; a = 0; b = 0 }) }
+    ensures version { judged_sealed (slice_set sealed_channel 5 1)
+        ≡ Refuses (record { code = 2; a = 0; b = 0 }) }
 {}
 
 /// A channel that is cut, spoilt or longer is refused at the place of its first unsound packet.

@@ -1,8 +1,9 @@
 -- What is sent once the last pass has ended: each stream is closed, and its records can stand one behind another.
-use Rattle.std.proofs.Common.{◌≡◌, ℕ, zero, suc, ◌+◌, ◌<◌, ◌≤◌, true, false, List, [], ◌∷◌, length, map, Some, None, refl, ap, sym, ◌∙◌, subst, arith}
+use Rattle.std.proofs.Common.{◌≡◌, ℕ, zero, suc, ◌+◌, ◌<◌, ◌≤◌, ◌&&◌, true, false, List, [], ◌∷◌, length, map, Some, None, refl, ap, sym, ◌∙◌, subst, arith}
 use Rattle.std.specs.List.{AllByRecursion, All}
 use Rattle.std.proofs.lemmas.List.Elements.{recursion_from_All, All-from_get_or}
 use Rattle.std.proofs.lemmas.List.Sums.{sum_by-le}
+use Rattle.std.proofs.lemmas.Bool.{and_parts, cond-false}
 use Rattle.sha2.proofs.Facts256.{length-sha256}
 use Rattle.vfm_types.specs.declared.desc.Desc.{Desc}
 use Rattle.vfm_types.specs.declared.entry.Entry.{Entry}
@@ -16,10 +17,11 @@ use Rattle.vfm_types.specs.Valid.{IsValid}
 use Rattle.vfm_plain.specs.Legal.{IsLegal}
 use Rattle.vfm_plain.specs.Shape.{IsSound}
 use Rattle.vfm_laws.specs.Queues.{IsRising}
+use Rattle.vfm_laws.proofs.Rising.{by_bool}
 use Rattle.vfm_laws.proofs.KeptQueues.{keeps_queues}
 use Rattle.vfm_record.specs.Record.{Record, Pending, Config, IsRecordOf}
 use Rattle.vfm_record.specs.Shape.{shape_digest, shape_text}
-use Rattle.vfm_streams.specs.Sent.{sent, records_of, sent_in_passes, chunks, pairs_of_a_record, engine_record}
+use Rattle.vfm_streams.specs.Sent.{Sent, sent, records_of, sent_in_passes, with_all_closed, chunks, pairs_of_a_record, engine_record}
 use Rattle.vfm_streams.specs.Packets.{kind_of}
 use Rattle.vfm_streams.specs.Whole.{is_config}
 use Rattle.vfm_streams.specs.Judged.{AllFit}
@@ -146,7 +148,17 @@ module _ (D : Desc) (past : List Entry) (valid : IsValid D) (legal : IsLegal D p
       subst (AllFit D (suc d)) (sym (ap (records_of (suc d)) (sent_closed D past valid legal last ended) ∙ closed_stream D m d (sent_in_passes D past) inside))
       (device_fits d inside)
 
--- the same, as the law has it
-pub all_fit : (D : Desc) (past : List Entry) (s : ℕ) → IsValid D → IsLegal D past → is_last_begun past ≡ true → is_no_pass_open D past ≡ true
-    → s ≤ device_count D → AllFit D s (records_of s (sent D past))
-all_fit D past s valid legal last ended inside = streams_fit D past valid legal last ended s inside
+-- what passes send fits too, and so does all that is sent, at any time
+passes_fit : (D : Desc) (past : List Entry) (s : ℕ) → IsValid D → IsLegal D past → AllFit D s (records_of s (sent_in_passes D past))
+passes_fit D past zero valid legal = (memory_passes D valid past legal).fit
+passes_fit D past (suc d) valid legal = (device_passes D valid past legal d).fit
+
+pub all_fit : (D : Desc) (past : List Entry) (s : ℕ) → IsValid D → IsLegal D past → s ≤ device_count D → AllFit D s (records_of s (sent D past))
+all_fit D past s valid legal inside =
+    by_bool (is_last_begun past && is_no_pass_open D past)
+    (λ b. (is_last_begun past && is_no_pass_open D past) ≡ b → AllFit D s (records_of s (sent D past)))
+    (λ closed e. let parts = and_parts (is_last_begun past) (is_no_pass_open D past) e in streams_fit D past valid legal parts.0 parts.1 s inside)
+    (λ open_ e.
+    subst (λ (all : List Sent). AllFit D s (records_of s all))
+    (sym (cond-false (is_last_begun past && is_no_pass_open D past) (with_all_closed D (joint_machine D past) (sent_in_passes D past)) (sent_in_passes D past) e))
+    (passes_fit D past s valid legal)) refl

@@ -158,11 +158,11 @@ end_sound D e valid expects =
     }
 
 -- a channel with its end is sound
-pub sound_share : (D : Desc) (past : List Entry) (e : Expect) (k : ℕ) → IsValid D → IsLegal D past → is_last_begun past ≡ true → is_no_pass_open D past ≡ true
-    → Expects D e → IsSoundChannel e (ended_share D past k) (lane_packets D k (sent D past))
-sound_share D past e k valid legal last ended expects =
+pub sound_share : (D : Desc) (past : List Entry) (e : Expect) (k : ℕ) → IsValid D → IsLegal D past → Expects D e
+    → IsSoundChannel e (ended_share D past k) (lane_packets D k (sent D past))
+sound_share D past e k valid legal expects =
     let low = low_sent D past legal in
-    let of = each_of D (device_count D) (sent D past) low (λ s inside. of_fit D s (records_of s (sent D past)) (all_fit D past s valid legal last ended inside)) in
+    let of = each_of D (device_count D) (sent D past) low (λ s inside. of_fit D s (records_of s (sent D past)) (all_fit D past s valid legal inside)) in
     record {
       rest = packet_bytes (end_of D.version D.session);
       each = lane_carried D e k (sent D past) valid expects of low (few_indexes D past valid legal);
@@ -179,10 +179,10 @@ within_limit : (n : ℕ) → n < 53000000 → n ≤ channel_limit
 unfolding channel_limit
 within_limit n short = omega arith
 
-pub share_reads : (D : Desc) (past : List Entry) (e : Expect) (k : ℕ) → IsValid D → IsLegal D past → is_last_begun past ≡ true → is_no_pass_open D past ≡ true
-    → Expects D e → reading_within channel_limit e (ended_share D past k) ≡ lane_reading D (sent D past) k
-share_reads D past e k valid legal last ended expects =
-    sound_reads channel_limit e (ended_share D past k) (lane_packets D k (sent D past)) (sound_share D past e k valid legal last ended expects)
+pub share_reads : (D : Desc) (past : List Entry) (e : Expect) (k : ℕ) → IsValid D → IsLegal D past → Expects D e
+    → reading_within channel_limit e (ended_share D past k) ≡ lane_reading D (sent D past) k
+share_reads D past e k valid legal expects =
+    sound_reads channel_limit e (ended_share D past k) (lane_packets D k (sent D past)) (sound_share D past e k valid legal expects)
     (within_limit (length (ended_share D past k)) (short_share D past k valid legal))
 
 all_read : (D : Desc) (past : List Entry) (e : Expect) (from n : ℕ) → ((k : ℕ) → reading_within channel_limit e (ended_share D past k) ≡ lane_reading D (sent D past) k)
@@ -194,7 +194,7 @@ all_read D past e from (suc n) each = rw (each from, all_read D past e (from + 1
 pub shares_verdict : (D : Desc) (past : List Entry) (e : Expect) → IsValid D → IsLegal D past → is_last_begun past ≡ true → is_no_pass_open D past ≡ true
     → Expects D e → verdict D e (map (ended_share D past) (range_with_len 0 D.channels)) ≡ Loads (joint_machine D past)
 shares_verdict D past e valid legal last ended expects =
-    ap (verdict_on D channel_limit) (all_read D past e 0 D.channels (λ k. share_reads D past e k valid legal last ended expects))
+    ap (verdict_on D channel_limit) (all_read D past e 0 D.channels (λ k. share_reads D past e k valid legal expects))
     ∙ own_verdict D past channel_limit valid legal last ended
 
 -- the verdict on bytes that bring what was sent

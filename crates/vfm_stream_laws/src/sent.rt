@@ -21,11 +21,9 @@ pub fn sent_records_load_joint_machine()
         → loaded D (λ s. records_of s (sent D past)) ≡ joint_machine D past }
 {}
 
-/// Where the last pass has ended, each record that is sent is one of its stream and can stand behind those
-/// before it.
+/// Each record that is sent is one of its stream and can stand behind those that are sent before it.
 pub fn sent_records_fit()
-    ensures { (D : Desc) (past : List Entry) (s : ℕ) → IsValid D → IsLegal D past
-        → IsTrue (is_last_begun past) → IsTrue (is_no_pass_open D past) → s ≤ device_count D
+    ensures { (D : Desc) (past : List Entry) (s : ℕ) → IsValid D → IsLegal D past → s ≤ device_count D
         → AllFit D s (records_of s (sent D past)) }
 {}
 

@@ -33,13 +33,12 @@ pub fn brought_packets_give_joint_machine()
         → verdict D e channels ≡ Loads (joint_machine D past) }
 {}
 
-/// What a channel carries, with its end, is a sound channel, and is read as the packets that were sent on it.
+/// What a channel carries at any time, with an end behind it, is a sound channel, and is read as the packets that
+/// were sent on it.
 pub fn ended_share_is_sound_channel()
-    ensures sound { (D : Desc) (past : List Entry) (e : Expect) (k : ℕ) → IsValid D → IsLegal D past
-        → IsTrue (is_last_begun past) → IsTrue (is_no_pass_open D past) → Expects D e
+    ensures sound { (D : Desc) (past : List Entry) (e : Expect) (k : ℕ) → IsValid D → IsLegal D past → Expects D e
         → IsSoundChannel e (ended_share D past k) (lane_packets D k (sent D past)) }
-    ensures read { (D : Desc) (past : List Entry) (e : Expect) (k : ℕ) → IsValid D → IsLegal D past
-        → IsTrue (is_last_begun past) → IsTrue (is_no_pass_open D past) → Expects D e
+    ensures read { (D : Desc) (past : List Entry) (e : Expect) (k : ℕ) → IsValid D → IsLegal D past → Expects D e
         → reading e (ended_share D past k) ≡ lane_reading D (sent D past) k }
 {}
 
