@@ -147,10 +147,10 @@ made_few : (hold : Option MigState) → hold_made hold ≤ 1
 made_few None = omega arith
 made_few (Some to) = omega arith
 
-out_is : (lead : Lead) (dev : Dev) → is_over lead ≡ false → moves_left lead dev ≡ steps_out dev.state - hold_made dev.hold + 3
+pub out_is : (lead : Lead) (dev : Dev) → is_over lead ≡ false → moves_left lead dev ≡ steps_out dev.state - hold_made dev.hold + 3
 out_is lead dev moving = cond-false _ _ _ moving
 
-home_is : (lead : Lead) (dev : Dev) → is_over lead ≡ true → moves_left lead dev ≡ arcs_home dev.state
+pub home_is : (lead : Lead) (dev : Dev) → is_over lead ≡ true → moves_left lead dev ≡ arcs_home dev.state
 home_is lead dev over = cond-true _ _ _ over
 
 pub hold_falls : (lead : Lead) (dev : Dev) (to : MigState) → DevStands lead dev → is_over lead ≡ false → dev.hold ≡ None → is_stopped dev.state ≡ false

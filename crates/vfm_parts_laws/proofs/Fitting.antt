@@ -187,7 +187,7 @@ next_closed D k lead next =
     (and_parts (k == lead.passes + 1) (is_no_pass_open_in D lead)
     (and_parts (k == lead.passes + 1 && is_no_pass_open_in D lead) (nat_le k 1 || all_below (device_count D) (λ d. has_reported_in lead d)) next).0).1
 
-pass_few : (D : Desc) (k : ℕ) (lead : Lead) (devs : ℕ → Dev) → LeadFits D lead → is_next_pass_in D k lead ≡ true → is_pass_wanted_in D k lead devs ≡ true
+pub pass_few : (D : Desc) (k : ℕ) (lead : Lead) (devs : ℕ → Dev) → LeadFits D lead → is_next_pass_in D k lead ≡ true → is_pass_wanted_in D k lead devs ≡ true
     → (lead.passes + 1 ≤ D.rounds + 1) × (lead.joint ≡ false → lead.passes + 1 ≤ D.rounds)
 pass_few D k lead devs fits next wanted =
     by_bool lead.joint
@@ -202,7 +202,7 @@ pass_few D k lead devs fits next wanted =
     ready : Bool
     ready = not (k == 1) || all_below (device_count D) (λ d. not (has_pre_copy (shape_at D d).flags) || same_state (devs d).state PreCopy)
 
-pass_fits : (D : Desc) (k : ℕ) (lead : Lead) (devs : ℕ → Dev) → LeadFits D lead → is_next_pass_in D k lead ≡ true → is_pass_wanted_in D k lead devs ≡ true
+pub pass_fits : (D : Desc) (k : ℕ) (lead : Lead) (devs : ℕ → Dev) → LeadFits D lead → is_next_pass_in D k lead ≡ true → is_pass_wanted_in D k lead devs ≡ true
     → LeadFits D (passed_lead D k devs lead)
 pass_fits D k lead devs fits next wanted =
     let few = pass_few D k lead devs fits next wanted in

@@ -9,3 +9,4 @@ pub mod FittingWorlds
 pub mod Sums
 pub mod Standing
 pub mod Falls
+pub mod EntriesFall

@@ -32,7 +32,7 @@ sum_bound (suc n) f b h =
     let rest = sum_bound n f b (λ k inside. h k (omega arith)) in
     let here = h n (omega arith) in omega arith
 
-sum_two : (n : ℕ) (f g : ℕ → ℕ) → sum_below n (λ k. f k + g k) ≡ sum_below n f + sum_below n g
+pub sum_two : (n : ℕ) (f g : ℕ → ℕ) → sum_below n (λ k. f k + g k) ≡ sum_below n f + sum_below n g
 sum_two zero f g = omega arith
 sum_two (suc n) f g = let rest = sum_two n f g in omega arith
 
