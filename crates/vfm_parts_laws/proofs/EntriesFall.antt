@@ -1,21 +1,16 @@
 -- What is left to the parts falls with each allowed entry, kind by kind.
-use Rattle.std.proofs.Common.{◌≡◌, ℕ, zero, suc, ◌+◌, ◌-◌, ◌*◌, ◌<◌, ◌≤◌, ◌==◌, ◌&&◌, ◌||◌, not, Bool, true, false, is_none, nat_le, nat_lt, if◌then◌else◌, List, [], ◌∷◌, length, slice_index_or, slice_set, Option, Some, None, refl, ap, ap₂, sym, ◌∙◌, subst, arith, eqb-true, ltb-true, le_refl, le_of_eq}
+use Rattle.std.proofs.Common.{◌≡◌, ℕ, ◌+◌, ◌-◌, ◌*◌, ◌<◌, ◌≤◌, ◌==◌, ◌&&◌, ◌||◌, not, Bool, true, false, is_none, nat_lt, if◌then◌else◌, List, [], ◌∷◌, length, slice_set, None, refl, ap, ap₂, sym, ◌∙◌, subst, arith, eqb-true, ltb-true, le_refl, le_of_eq}
 use Rattle.std.proofs.lemmas.Bool.{and_parts, not-true, false≢true, true≢false, cond-true, cond-false, eq-eqb, eqb-false}
 use Rattle.std.proofs.lemmas.List.{get_or-set_same, get_or-set_other}
-use Rattle.std.specs.List.{sum_by}
 use Rattle.vfm_types.specs.declared.desc.Desc.{Desc}
 use Rattle.vfm_types.specs.declared.job.Region.{Region}
 use Rattle.vfm_types.specs.declared.state.MigState.{MigState}
-use Rattle.vfm_types.specs.declared.state.MigState.TheVariants.{Resuming, PreCopy}
 use Rattle.vfm_types.specs.declared.entry.Entry.{Entry}
 use Rattle.vfm_types.specs.declared.entry.Entry.TheVariants.{Issue, Deliver, Complete, Hold, Arc, Fail, Report, Pass, Copy, Block, Dry, Begin, Joint, Abort, Resume}
 use Rattle.vfm_types.specs.declared.entry.Rule.TheVariants.{Order, Path, Quiet, Pages, Blocks, Decide, Start, Joint as Standing}
 use Rattle.vfm_base.specs.Tests.{first_failed}
-use Rattle.vfm_base.specs.Least.{least_below, all_below}
-use Rattle.vfm_base.specs.PageSet.{contains_page, least_page_from}
+use Rattle.vfm_base.specs.PageSet.{contains_page}
 use Rattle.vfm_base.proofs.NumbersWhere.{length-numbers_where_le}
-use Rattle.vfm_types.specs.State.{has_pre_copy}
-use Rattle.vfm_types.specs.Paths.{same_state}
 use Rattle.vfm_types.specs.Desc.{device_count, shape_at, no_shape, block_count}
 use Rattle.vfm_types.specs.Job.{place_of, length_of, is_bar_of}
 use Rattle.vfm_types.specs.Valid.{IsValid}
@@ -25,7 +20,7 @@ use Rattle.vfm_laws.proofs.Rising.{by_bool}
 use Rattle.vfm_laws.proofs.Conditions.{met}
 use Rattle.vfm_parts.specs.Parts.{Dev, Lead, Parts, numbers_below}
 use Rattle.vfm_parts.specs.PartWords.{is_on_in, is_no_pass_open_in, next_copy_in, next_part_in, blocks_left_in, has_reported_in, is_decided_in, is_way_open_in}
-use Rattle.vfm_parts.specs.Fits.{LeadFits, PartsFit}
+use Rattle.vfm_parts.specs.Fits.{PartsFit}
 use Rattle.vfm_parts.specs.IssueStep.{issued_dev}
 use Rattle.vfm_parts.specs.DeliverStep.{job_in, region_of_job, region_bytes_in, delivered_dev, struck_dev}
 use Rattle.vfm_parts.specs.CompleteStep.{completed_dev}
@@ -34,19 +29,18 @@ use Rattle.vfm_parts.specs.HoldStep.{held_dev, may_be_held_in, is_next_to_stop_c
 use Rattle.vfm_parts.specs.ArcStep.{moved_dev, may_take_arcs_in, is_quiet_for_arc_in}
 use Rattle.vfm_parts.specs.FailStep.{failed_dev, failed_lead, is_right_fail_in}
 use Rattle.vfm_parts.specs.ReportStep.{reported_dev, reported_lead, may_report_log_in}
-use Rattle.vfm_parts.specs.PassStep.{is_next_pass_in, is_pass_wanted_in, pass_pages, part_size, passed_lead}
+use Rattle.vfm_parts.specs.PassStep.{is_next_pass_in, is_pass_wanted_in, passed_lead}
 use Rattle.vfm_parts.specs.CopyStep.{is_copy_due_in}
-use Rattle.vfm_parts.specs.BlockStep.{is_block_due_in, is_part_due_in, next_block_in, read_lead, read_dev}
-use Rattle.vfm_parts.specs.DryStep.{is_dry_due_in, dry_lead}
+use Rattle.vfm_parts.specs.BlockStep.{is_block_due_in, is_part_due_in, next_block_in, read_dev}
+use Rattle.vfm_parts.specs.DryStep.{is_dry_due_in}
 use Rattle.vfm_parts.specs.JointStep.{is_all_in_stop_copy_in, joint_lead}
 use Rattle.vfm_parts.specs.AbortStep.{aborted_dev, aborted_lead}
 use Rattle.vfm_parts.specs.ResumeStep.{resumed_dev, resumed_lead, is_state_copied_in}
-use Rattle.vfm_parts.specs.Steps.{fault_in, with_dev, parts_after, lead_after, dev_after, page_after}
-use Rattle.vfm_parts_laws.specs.Room.{sum_below, is_over, arcs_home, moves_left, requests_left, reads_left, report_left, device_left, pass_size, passes_left, phases_left, entries_left, DevStands, PartsStand}
-use Rattle.vfm_parts_laws.proofs.FittingQueues.{issue_fits}
+use Rattle.vfm_parts.specs.Steps.{fault_in, with_dev, parts_after, dev_after, page_after}
+use Rattle.vfm_parts_laws.specs.Room.{sum_below, is_over, arcs_home, moves_left, requests_left, reads_left, report_left, device_left, pass_size, passes_left, phases_left, entries_left, PartsStand}
 use Rattle.vfm_parts_laws.proofs.Fitting.{lies, bar_inside, pass_few, pass_fits}
 use Rattle.vfm_parts_laws.proofs.Standing.{hold_allowed, arc_allowed}
-use Rattle.vfm_parts_laws.proofs.Sums.{sum_le, sum_less, sum_two, sum_listed}
+use Rattle.vfm_parts_laws.proofs.Sums.{sum_le, sum_two, sum_listed}
 use Rattle.vfm_parts_laws.proofs.Falls.{issue_falls, complete_falls, deliver_falls, target_same, few_home, out_is, home_is, hold_falls, arc_falls, exactly_is, part_some, copy_falls, reads_fall, reads_gone, reads_few, left_at, sum_one, product_more, product_le}
 
 -- ---- totals

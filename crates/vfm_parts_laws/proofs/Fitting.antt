@@ -1,5 +1,5 @@
 -- Each allowed entry keeps what every part satisfies by itself.
-use Rattle.std.proofs.Common.{◌≡◌, ℕ, ◌+◌, ◌-◌, ◌<◌, ◌≤◌, ◌==◌, ◌&&◌, ◌||◌, not, Bool, true, false, nat_le, nat_lt, if◌then◌else◌, List, [], ◌∷◌, length, slice_index_or, slice_set, Option, Some, None, IsTrue, refl, ap, ap₂, sym, ◌∙◌, subst, arith, eqb-true, ltb-true, ⊎_elim}
+use Rattle.std.proofs.Common.{◌≡◌, ℕ, ◌+◌, ◌-◌, ◌<◌, ◌≤◌, ◌==◌, ◌&&◌, ◌||◌, not, Bool, true, false, nat_le, nat_lt, if◌then◌else◌, List, [], ◌∷◌, length, slice_index_or, slice_set, Option, Some, None, refl, ap, sym, ◌∙◌, subst, arith, eqb-true, ltb-true, ⊎_elim}
 use Rattle.std.proofs.lemmas.Bool.{and_parts, not-true, false≢true, true≢false, cases_eq, cases_lt, eqb-false, leb-false, ltb-false}
 use Rattle.std.proofs.lemmas.List.{get_or-set_same, get_or-set_other, set_past, length-set}
 use Rattle.vfm_types.specs.declared.desc.Desc.{Desc}
@@ -21,7 +21,7 @@ use Rattle.vfm_plain.specs.Legal.{is_entry_of}
 use Rattle.vfm_plain.specs.Shape.{LiesIn, Lies}
 use Rattle.vfm_laws.proofs.Rising.{by_bool}
 use Rattle.vfm_laws.proofs.Conditions.{met}
-use Rattle.vfm_parts.specs.Parts.{Dev, Lead, Parts, listed, numbers_below, one_more}
+use Rattle.vfm_parts.specs.Parts.{Dev, Lead, Parts, numbers_below, one_more}
 use Rattle.vfm_parts.specs.PartWords.{is_on_in, is_no_pass_open_in, has_reported_in, is_decided_in, blocks_left_in}
 use Rattle.vfm_parts.specs.Fits.{IsSetBelow, DevFits, LeadFits, PageFits, PartsFit}
 use Rattle.vfm_parts.specs.IssueStep.{issued_dev}
@@ -33,9 +33,6 @@ use Rattle.vfm_parts.specs.FailStep.{failed_dev}
 use Rattle.vfm_parts.specs.ReportStep.{reported_dev, reported_lead}
 use Rattle.vfm_parts.specs.PassStep.{is_next_pass_in, is_pass_wanted_in, pass_pages, part_size, passed_lead}
 use Rattle.vfm_parts.specs.BlockStep.{read_dev, read_lead}
-use Rattle.vfm_parts.specs.BeginStep.{begun_dev}
-use Rattle.vfm_parts.specs.AbortStep.{aborted_dev}
-use Rattle.vfm_parts.specs.ResumeStep.{resumed_dev}
 use Rattle.vfm_parts.specs.Steps.{fault_in, with_dev, parts_after, dev_after, page_after}
 use Rattle.vfm_parts.proofs.Listed.{listed_at, length-listed}
 use Rattle.vfm_parts_laws.proofs.FittingQueues.{set_fits, empty_fits, issue_fits, complete_fits, own_deliver_fits, job_lies}
@@ -243,24 +240,39 @@ step_fits D parts (Complete d n) valid fits named fine =
 step_fits D parts (Hold d to) valid fits named fine =
     let dev = parts.dev d in
     let own = fits.dev d (ltb-true d (device_count D) named) in
-    record { lead = fits.lead; page = fits.page; dev = one_fits D parts d (held_dev to dev) fits.dev
-        (other_fits D d dev dev.state (Some to) dev.arcs dev.logging dev.released dev.marks dev.unread dev.dirty own own.arcs own.marks own.unread own.dirty) }
+    record {
+      lead = fits.lead;
+      page = fits.page;
+      dev = one_fits D parts d (held_dev to dev) fits.dev
+          (other_fits D d dev dev.state (Some to) dev.arcs dev.logging dev.released dev.marks dev.unread dev.dirty own own.arcs own.marks own.unread own.dirty);
+    }
 step_fits D parts (Arc d to) valid fits named fine =
     let dev = parts.dev d in
     let own = fits.dev d (ltb-true d (device_count D) named) in
-    record { lead = fits.lead; page = fits.page; dev = one_fits D parts d (moved_dev to dev) fits.dev
-        (other_fits D d dev to None (one_more dev.arcs) dev.logging dev.released dev.marks dev.unread dev.dirty own (most_arcs dev.arcs) own.marks own.unread own.dirty) }
+    record {
+      lead = fits.lead;
+      page = fits.page;
+      dev = one_fits D parts d (moved_dev to dev) fits.dev
+          (other_fits D d dev to None (one_more dev.arcs) dev.logging dev.released dev.marks dev.unread dev.dirty own (most_arcs dev.arcs) own.marks own.unread own.dirty);
+    }
 step_fits D parts (Fail d to) valid fits named fine =
     let dev = parts.dev d in
     let own = fits.dev d (ltb-true d (device_count D) named) in
-    record { lead = flags_fit D parts.lead parts.lead.begun parts.lead.joint parts.lead.aborted parts.lead.resumed true fits.lead; page = fits.page;
-        dev = one_fits D parts d (failed_dev dev) fits.dev
-        (other_fits D d dev dev.state dev.hold (one_more dev.arcs) dev.logging dev.released dev.marks dev.unread dev.dirty own (most_arcs dev.arcs) own.marks own.unread own.dirty) }
+    record {
+      lead = flags_fit D parts.lead parts.lead.begun parts.lead.joint parts.lead.aborted parts.lead.resumed true fits.lead;
+      page = fits.page;
+      dev = one_fits D parts d (failed_dev dev) fits.dev
+          (other_fits D d dev dev.state dev.hold (one_more dev.arcs) dev.logging dev.released dev.marks dev.unread dev.dirty own (most_arcs dev.arcs) own.marks own.unread own.dirty);
+    }
 step_fits D parts (Report d) valid fits named fine =
     let dev = parts.dev d in
     let own = fits.dev d (ltb-true d (device_count D) named) in
-    record { lead = report_fits D parts.lead d dev.marks fits.lead; page = fits.page; dev = one_fits D parts d (reported_dev dev) fits.dev
-        (other_fits D d dev dev.state dev.hold dev.arcs dev.logging dev.released [] dev.unread dev.dirty own own.arcs (empty_fits D.pages) own.unread own.dirty) }
+    record {
+      lead = report_fits D parts.lead d dev.marks fits.lead;
+      page = fits.page;
+      dev = one_fits D parts d (reported_dev dev) fits.dev
+          (other_fits D d dev dev.state dev.hold dev.arcs dev.logging dev.released [] dev.unread dev.dirty own own.arcs (empty_fits D.pages) own.unread own.dirty);
+    }
 step_fits D parts (Pass k) valid fits named fine =
     let order = met (is_on_in parts.lead) Order ((is_next_pass_in D k parts.lead, Pages) ∷ (is_pass_wanted_in D k parts.lead parts.dev, Decide) ∷ []) fine in
     let next = met (is_next_pass_in D k parts.lead) Pages ((is_pass_wanted_in D k parts.lead parts.dev, Decide) ∷ []) order.1 in
@@ -286,22 +298,35 @@ step_fits D parts (Block d b) valid fits named fine =
     let dev = parts.dev d in
     let inside = ltb-true d (device_count D) (and_parts (nat_lt d (device_count D)) (nat_lt b (block_count (shape_at D d))) named).0 in
     let own = fits.dev d inside in
-    record { lead = read_fits D parts.lead d inside fits.lead; page = fits.page; dev = one_fits D parts d (read_dev D d b dev) fits.dev
-        (other_fits D d dev dev.state dev.hold dev.arcs dev.logging dev.released dev.marks (read_dev D d b dev).unread (read_dev D d b dev).dirty own own.arcs own.marks
-        (set_fits (block_count (shape_at D d)) _) (set_fits (block_count (shape_at D d)) _)) }
+    record {
+      lead = read_fits D parts.lead d inside fits.lead;
+      page = fits.page;
+      dev = one_fits D parts d (read_dev D d b dev) fits.dev
+          (other_fits D d dev dev.state dev.hold dev.arcs dev.logging dev.released dev.marks (read_dev D d b dev).unread (read_dev D d b dev).dirty own own.arcs own.marks
+          (set_fits (block_count (shape_at D d)) _) (set_fits (block_count (shape_at D d)) _));
+    }
 step_fits D parts (Dry d) valid fits named fine =
     record { lead = parts_fit D parts.lead d 0 fits.lead (omega arith); dev = fits.dev; page = fits.page }
 step_fits D parts Begin valid fits named fine =
-    record { lead = flags_fit D parts.lead true parts.lead.joint parts.lead.aborted parts.lead.resumed parts.lead.failed fits.lead; page = fits.page;
-        dev = λ k h. let dev = parts.dev k in let own = fits.dev k h in
-        other_fits D k dev dev.state dev.hold dev.arcs true dev.released [] dev.unread dev.dirty own own.arcs (empty_fits D.pages) own.unread own.dirty }
+    record {
+      lead = flags_fit D parts.lead true parts.lead.joint parts.lead.aborted parts.lead.resumed parts.lead.failed fits.lead;
+      page = fits.page;
+      dev = λ k h. let dev = parts.dev k in let own = fits.dev k h in
+          other_fits D k dev dev.state dev.hold dev.arcs true dev.released [] dev.unread dev.dirty own own.arcs (empty_fits D.pages) own.unread own.dirty;
+    }
 step_fits D parts Joint valid fits named fine =
     record { lead = flags_fit D parts.lead parts.lead.begun true parts.lead.aborted parts.lead.resumed parts.lead.failed fits.lead; dev = fits.dev; page = fits.page }
 step_fits D parts Abort valid fits named fine =
-    record { lead = flags_fit D parts.lead parts.lead.begun parts.lead.joint true parts.lead.resumed false fits.lead; page = fits.page;
-        dev = λ k h. let dev = parts.dev k in let own = fits.dev k h in
-        other_fits D k dev dev.state None dev.arcs dev.logging true dev.marks dev.unread dev.dirty own own.arcs own.marks own.unread own.dirty }
+    record {
+      lead = flags_fit D parts.lead parts.lead.begun parts.lead.joint true parts.lead.resumed false fits.lead;
+      page = fits.page;
+      dev = λ k h. let dev = parts.dev k in let own = fits.dev k h in
+          other_fits D k dev dev.state None dev.arcs dev.logging true dev.marks dev.unread dev.dirty own own.arcs own.marks own.unread own.dirty;
+    }
 step_fits D parts Resume valid fits named fine =
-    record { lead = flags_fit D parts.lead parts.lead.begun parts.lead.joint parts.lead.aborted true parts.lead.failed fits.lead; page = fits.page;
-        dev = λ k h. let dev = parts.dev k in let own = fits.dev k h in
-        other_fits D k dev Resuming dev.hold dev.arcs false true [] [] [] own own.arcs (empty_fits D.pages) (empty_fits (block_count (shape_at D k))) (empty_fits (block_count (shape_at D k))) }
+    record {
+      lead = flags_fit D parts.lead parts.lead.begun parts.lead.joint parts.lead.aborted true parts.lead.failed fits.lead;
+      page = fits.page;
+      dev = λ k h. let dev = parts.dev k in let own = fits.dev k h in
+          other_fits D k dev Resuming dev.hold dev.arcs false true [] [] [] own own.arcs (empty_fits D.pages) (empty_fits (block_count (shape_at D k))) (empty_fits (block_count (shape_at D k)));
+    }

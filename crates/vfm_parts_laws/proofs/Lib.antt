@@ -10,3 +10,4 @@ pub mod Sums
 pub mod Standing
 pub mod Falls
 pub mod EntriesFall
+pub mod RoomWorlds

@@ -1,9 +1,9 @@
 -- Each allowed entry keeps how the devices stand: none in ERROR, and until the move is over held only for its next state.
-use Rattle.std.proofs.Common.{◌≡◌, ℕ, ◌+◌, ◌<◌, ◌==◌, ◌&&◌, ◌||◌, not, Bool, true, false, is_none, nat_lt, if◌then◌else◌, List, [], ◌∷◌, Option, Some, None, refl, ap, ap₂, sym, ◌∙◌, subst, arith, eqb-true, ltb-true}
+use Rattle.std.proofs.Common.{◌≡◌, ℕ, ◌+◌, ◌<◌, ◌==◌, ◌&&◌, ◌||◌, not, Bool, true, false, is_none, nat_lt, if◌then◌else◌, [], ◌∷◌, Option, Some, None, refl, ap, sym, ◌∙◌, ltb-true}
 use Rattle.std.proofs.lemmas.Bool.{and_parts, not-true, false≢true, true≢false}
 use Rattle.vfm_types.specs.declared.desc.Desc.{Desc}
 use Rattle.vfm_types.specs.declared.state.MigState.{MigState}
-use Rattle.vfm_types.specs.declared.state.MigState.TheVariants.{Error, Stop, Running, StopCopy, Resuming, PreCopy}
+use Rattle.vfm_types.specs.declared.state.MigState.TheVariants.{Error, Stop, Running, StopCopy, PreCopy}
 use Rattle.vfm_types.specs.declared.entry.Entry.{Entry}
 use Rattle.vfm_types.specs.declared.entry.Entry.TheVariants.{Issue, Deliver, Complete, Hold, Arc, Fail, Report, Pass, Copy, Block, Dry, Begin, Joint, Abort, Resume}
 use Rattle.vfm_types.specs.declared.entry.Rule.TheVariants.{Order, Decide, Path, Quiet}
@@ -40,9 +40,11 @@ hold_allowed D parts d to fine =
     let order = met (may_be_held_in parts.lead (parts.dev d)) Order ((is_decided_in D parts.lead, Decide) ∷ (path, Path) ∷ (is_quiet_for_hold_in D to parts.dev, Quiet) ∷ []) fine in
     let decided = met (is_decided_in D parts.lead) Decide ((path, Path) ∷ (is_quiet_for_hold_in D to parts.dev, Quiet) ∷ []) order.1 in
     let right = met path Path ((is_quiet_for_hold_in D to parts.dev, Quiet) ∷ []) decided.1 in
-    let parts_of = and_parts (not (is_stopped (parts.dev d).state)) (is_next_towards_in D d StopCopy to (parts.dev d)) right.0 in
-    (none_is (parts.dev d).hold (and_parts _ (is_none (parts.dev d).hold) order.0).1, not-true (is_stopped (parts.dev d).state) parts_of.0,
-    same_is to (next_towards (parts.dev d).state StopCopy (shape_at D d).flags) parts_of.1)
+    let parts_of = and_parts (not (is_stopped (parts.dev d).state)) (is_next_towards_in D d StopCopy to (parts.dev d)) right.0 in (
+      none_is (parts.dev d).hold (and_parts _ (is_none (parts.dev d).hold) order.0).1,
+      not-true (is_stopped (parts.dev d).state) parts_of.0,
+      same_is to (next_towards (parts.dev d).state StopCopy (shape_at D d).flags) parts_of.1,
+    )
   where
     none_is : (hold : Option MigState) → is_none hold ≡ true → hold ≡ None
     none_is None e = refl

@@ -1,10 +1,9 @@
 -- Sums over the numbers below a bound, and bounds that fall.
-use Rattle.std.proofs.Common.{◌≡◌, ℕ, zero, suc, ◌+◌, ◌-◌, ◌*◌, ◌<◌, ◌≤◌, ◌==◌, ◌&&◌, not, Bool, true, false, if◌then◌else◌, List, [], ◌∷◌, length, slice_index_or, refl, ap, ap₂, sym, ◌∙◌, subst, arith, eqb-true, ⊎_elim, ◌⊎◌, inl, inr, mul-suc}
-use Rattle.std.proofs.lemmas.Bool.{cases_eq, cases_lt, false≢true, eqb-false, ne_eqb, eq-eqb}
+use Rattle.std.proofs.Common.{◌≡◌, ℕ, zero, suc, ◌+◌, ◌*◌, ◌<◌, ◌≤◌, ◌==◌, ◌&&◌, not, Bool, true, false, if◌then◌else◌, List, [], ◌∷◌, length, slice_index_or, refl, ap, ap₂, sym, ◌∙◌, subst, arith, ⊎_elim, ◌⊎◌, inl, inr}
+use Rattle.std.proofs.lemmas.Bool.{cases_lt, ne_eqb, eq-eqb}
 use Rattle.std.specs.List.{sum_by}
 use Rattle.std.proofs.lemmas.List.Sums.{sum_by-cons}
 use Rattle.vfm_base.specs.Least.{count_below}
-use Rattle.vfm_laws.proofs.Rising.{by_bool}
 use Rattle.vfm_parts_laws.specs.Room.{sum_below}
 
 pub sum_le : (n : ℕ) (f g : ℕ → ℕ) → ((k : ℕ) → k < n → g k ≤ f k) → sum_below n g ≤ sum_below n f
@@ -89,3 +88,7 @@ count_less (suc n) test p inside passes = at (λ low. count_less n test p low pa
         let gone : one_if (test n && not (p == n)) ≡ 0 = ap one_if none in
         let there : one_if (test n) ≡ 1 = ap one_if (sym (ap test here) ∙ passes) in
         omega arith
+
+pub sum_same : (n : ℕ) (f g : ℕ → ℕ) → ((k : ℕ) → k < n → f k ≡ g k) → sum_below n f ≡ sum_below n g
+sum_same zero f g h = refl
+sum_same (suc n) f g h = ap₂ (λ (a b : ℕ). a + b) (sum_same n f g (λ k inside. h k (omega arith))) (h n (omega arith))
