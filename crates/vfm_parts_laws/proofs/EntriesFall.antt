@@ -1,4 +1,5 @@
 -- What is left to the parts falls with each allowed entry, kind by kind.
+use Rattle.std.proofs.Math.Bool.{or-true}
 use Rattle.std.proofs.Common.{◌≡◌, ℕ, ◌+◌, ◌-◌, ◌*◌, ◌<◌, ◌≤◌, ◌==◌, ◌&&◌, ◌||◌, not, Bool, true, false, is_none, nat_lt, if◌then◌else◌, List, [], ◌∷◌, length, slice_set, None, refl, ap, ap₂, sym, ◌∙◌, subst, arith, eqb-true, ltb-true, le_refl, le_of_eq}
 use Rattle.std.proofs.lemmas.Bool.{and_parts, not-true, false≢true, true≢false, cond-true, cond-false, eq-eqb, eqb-false}
 use Rattle.std.proofs.lemmas.List.{get_or-set_same, get_or-set_other}
@@ -121,10 +122,6 @@ over_phase : (begun joint over failed after : Bool) → over ≡ false → phase
 over_phase begun joint true failed after moving = absurd (true≢false moving)
 over_phase begun joint false true after moving = omega arith
 over_phase begun joint false false after moving = omega arith
-
-or_true : (b : Bool) → (b || true) ≡ true
-or_true true = refl
-or_true false = refl
 
 -- ---- what the coordinator's conditions say
 
@@ -313,9 +310,9 @@ module _ (D : Desc) (parts : Parts) (valid : IsValid D) (fits : PartsFit D parts
       let order = (met (is_on_in parts.lead) Order ((is_state_copied_in D parts.lead, Standing) ∷ []) fine).0 in
       let moving = (on_moving parts.lead order).0 in
       phases_only (resumed_lead parts.lead) (λ k. resumed_dev (parts.dev k)) parts.page (le_refl (passes_left D parts.lead)) refl
-      (subst (λ (over : Bool). phases parts.lead.begun parts.lead.joint over parts.lead.failed + 1 ≤ phases_left parts.lead) (sym (or_true parts.lead.aborted))
+      (subst (λ (over : Bool). phases parts.lead.begun parts.lead.joint over parts.lead.failed + 1 ≤ phases_left parts.lead) (sym (or-true parts.lead.aborted))
       (over_phase parts.lead.begun parts.lead.joint (is_over parts.lead) parts.lead.failed parts.lead.failed moving))
-      (λ k h. let home = home_is (resumed_lead parts.lead) (resumed_dev (parts.dev k)) (or_true parts.lead.aborted) in let kept = three_kept (parts.dev k) moving in
+      (λ k h. let home = home_is (resumed_lead parts.lead) (resumed_dev (parts.dev k)) (or-true parts.lead.aborted) in let kept = three_kept (parts.dev k) moving in
       move_le (requests_left D k (parts.dev k)) (moves_left parts.lead (parts.dev k)) (moves_left (resumed_lead parts.lead) (resumed_dev (parts.dev k))) (reads_left (blocks_left_in parts.lead k))
       (report_left (has_reported_in parts.lead k)) (omega arith))
 

@@ -1,4 +1,5 @@
 -- What is left to the parts falls with each allowed entry: the pieces.
+use Rattle.std.proofs.lemmas.Option.{none-some}
 use Rattle.std.proofs.Common.{◌≡◌, ℕ, zero, suc, ◌+◌, ◌-◌, ◌*◌, ◌<◌, ◌≤◌, ◌==◌, ◌&&◌, not, Bool, true, false, nat_lt, if◌then◌else◌, List, [], ◌∷◌, ◌++◌, length, Option, Some, None, refl, ap, sym, ◌∙◌, subst, arith, eqb-true, ltb-true, lt-ltb, length-append, mul-le-mul_right, suc-mul}
 use Rattle.std.proofs.lemmas.Bool.{false≢true, true≢false, cond-true, cond-false}
 use Rattle.vfm_types.specs.declared.desc.Desc.{Desc}
@@ -192,10 +193,7 @@ arc_falls D lead dev d to arcs stands (final moving from is) =
 -- ---- pages and blocks
 
 least_passes : (i n : ℕ) (test : ℕ → Bool) (d : ℕ) → least_from i n test ≡ Some d → test d ≡ true
-least_passes i zero test d found = absurd (none_some d found)
-  where
-    none_some : (x : ℕ) → None ≡ Some x → ⊥
-    none_some x same = cc
+least_passes i zero test d found = absurd (none-some d found)
 least_passes i (suc n) test d found =
     by_bool (test i) (λ b. test i ≡ b → (if b then Some i else least_from (i + 1) n test) ≡ Some d → test d ≡ true)
     (λ passes t e. let same : i ≡ d = cc in ap test (sym same) ∙ t)

@@ -1,4 +1,5 @@
 -- Each allowed entry keeps what every part satisfies by itself.
+use Rattle.std.proofs.lemmas.Bool.{or_parts}
 use Rattle.std.proofs.Common.{◌≡◌, ℕ, ◌+◌, ◌-◌, ◌<◌, ◌≤◌, ◌==◌, ◌&&◌, ◌||◌, not, Bool, true, false, nat_le, nat_lt, if◌then◌else◌, List, [], ◌∷◌, length, slice_index_or, slice_set, Option, Some, None, refl, ap, sym, ◌∙◌, subst, arith, eqb-true, ltb-true, ⊎_elim}
 use Rattle.std.proofs.lemmas.Bool.{and_parts, not-true, false≢true, true≢false, cases_eq, cases_lt, eqb-false, leb-false, ltb-false}
 use Rattle.std.proofs.lemmas.List.{get_or-set_same, get_or-set_other, set_past, length-set}
@@ -166,18 +167,14 @@ flags_fit D lead begun joint aborted resumed failed fits =
 few_passes : (rounds passes : ℕ) (closed few : Bool) → closed ≡ true → (rounds == 0 || (nat_lt 0 passes && closed && (nat_le rounds passes || few))) ≡ false
     → passes + 1 ≤ rounds
 few_passes rounds passes closed few is undecided =
-    let parts = neither (rounds == 0) (nat_lt 0 passes && closed && (nat_le rounds passes || few)) undecided in
+    let parts = or_parts (rounds == 0) (nat_lt 0 passes && closed && (nat_le rounds passes || few)) undecided in
     let some : rounds ≡ 0 → ⊥ = eqb-false rounds 0 parts.0 in
     by_bool (nat_lt 0 passes)
     (λ b. nat_lt 0 passes ≡ b → (b && closed && (nat_le rounds passes || few)) ≡ false → passes + 1 ≤ rounds)
     (λ later e h.
     let open_ : (nat_le rounds passes || few) ≡ false = sym (ap (λ (c : Bool). c && (nat_le rounds passes || few)) is) ∙ h in
-    let low : passes < rounds = leb-false rounds passes (neither (nat_le rounds passes) few open_).0 in omega arith)
+    let low : passes < rounds = leb-false rounds passes (or_parts (nat_le rounds passes) few open_).0 in omega arith)
     (λ first e h. let none : passes ≤ 0 = ltb-false 0 passes e in omega (arith, some)) refl parts.1
-  where
-    neither : (a b : Bool) → (a || b) ≡ false → (a ≡ false) × (b ≡ false)
-    neither true b e = absurd (false≢true (sym e))
-    neither false b e = (refl, e)
 
 next_closed : (D : Desc) (k : ℕ) (lead : Lead) → is_next_pass_in D k lead ≡ true → is_no_pass_open_in D lead ≡ true
 next_closed D k lead next =

@@ -1,4 +1,6 @@
 -- What is seen of the parts of a list is what the list says.
+use Rattle.std.proofs.lemmas.Option.{none-some}
+use Rattle.std.proofs.lemmas.Bool.{or_parts}
 use Rattle.std.proofs.Common.{◌≡◌, ℕ, zero, suc, ◌+◌, ◌<◌, ◌||◌, Bool, true, false, is_none, nat_lt, if◌then◌else◌, List, [], ◌∷◌, length, slice_index_or, Option, Some, None, unwrap_or, refl, ap, ◌∙◌, arith, true≢false}
 use Rattle.vfm_types.specs.declared.desc.Desc.{Desc}
 use Rattle.vfm_types.specs.declared.entry.Entry.{Entry}
@@ -66,10 +68,7 @@ part_told D past = ap (due_of_pass (is_aborted past || is_resumed past)) (part_i
 
 -- the least number that passes is one of those that were asked
 least_inside : (i n : ℕ) (test : ℕ → Bool) (d : ℕ) → least_from i n test ≡ Some d → d < i + n
-least_inside i zero test d found = absurd (none_some d found)
-  where
-    none_some : (x : ℕ) → None ≡ Some x → ⊥
-    none_some x same = cc
+least_inside i zero test d found = absurd (none-some d found)
 least_inside i (suc n) test d found =
     by_bool (test i) (λ b. (if b then Some i else least_from (i + 1) n test) ≡ Some d → d < i + suc n)
     (λ passes e. let same : i ≡ d = cc in omega arith)
@@ -87,12 +86,8 @@ block_told D past =
     → block_of_part (λ d. next_block_in (dev_at (world_of D past) d)) (due_of_pass b (next_part D past))
     ≡ block_of_part (λ d. next_block D d past) (due_of_pass b (next_part D past)))
     (λ over e. refl)
-    (λ moving e. at (next_part D past) refl (neither (is_aborted past) (is_resumed past) e)) refl
+    (λ moving e. at (next_part D past) refl (or_parts (is_aborted past) (is_resumed past) e).1) refl
   where
-    neither : (a b : Bool) → (a || b) ≡ false → b ≡ false
-    neither true b e = absurd (true≢false e)
-    neither false b e = e
-
     at : (due : Option ℕ) → next_part D past ≡ due → is_resumed past ≡ false
         → block_of_part (λ d. next_block_in (dev_at (world_of D past) d)) due ≡ block_of_part (λ d. next_block D d past) due
     at None is live = refl

@@ -1,4 +1,5 @@
 -- How many entries are left to a world: at first, staged, and after each step.
+use Rattle.std.proofs.lemmas.Option.{none-some}
 use Rattle.std.proofs.Common.{◌≡◌, ℕ, ◌+◌, ◌*◌, ◌<◌, ◌≤◌, Bool, true, false, List, [], ◌∷◌, length, Some, None, IsTrue, refl, ap, sym, ◌∙◌, subst, arith, zero-mul}
 use Rattle.vfm_types.specs.declared.desc.Desc.{Desc}
 use Rattle.vfm_types.specs.declared.entry.Entry.{Entry}
@@ -46,12 +47,9 @@ world_stands D w entry stands named fine k h =
 
 -- ---- at first
 
-none_some : {X : Type 0} (x : X) → None ≡ Some x → ⊥
-none_some x same = cc
-
 pub list_stands : (D : Desc) (past : List Entry) → IsValid D → IsLegal D past → PartsStand D (parts_in (world_of D past))
 list_stands D [] valid legal =
-    λ k h. subst (DevStands (lead_of D [])) (sym ((world_tells D []).dev k h)) (record { known = refl; held = λ moving to is. absurd (none_some to is) })
+    λ k h. subst (DevStands (lead_of D [])) (sym ((world_tells D []).dev k h)) (record { known = refl; held = λ moving to is. absurd (none-some to is) })
 list_stands D (entry ∷ past) valid legal =
     subst (λ (w : World). PartsStand D (parts_in w)) (world_after D past entry valid legal)
     (world_stands D (world_of D past) entry (list_stands D past valid legal.2) legal.0
@@ -111,7 +109,7 @@ list_short D (entry ∷ past) valid legal =
 pub staged_stands : (D : Desc) (m : Machine) → PartsStand D (parts_in (staged_world D m))
 staged_stands D m k h =
     subst (DevStands (staged_lead D)) (sym (listed_at (device_count D) (λ d. staged_dev (shape_at D d) (device_of m d)) k no_dev h))
-    (record { known = refl; held = λ moving to is. absurd (none_some to is) })
+    (record { known = refl; held = λ moving to is. absurd (none-some to is) })
 
 staged_device : (D : Desc) (m : Machine) → HasCounts D m → (d : ℕ) → d < device_count D
     → device_left D (parts_in (staged_world D m)) d ≤ 3 * (shape_at D d).budget + 10

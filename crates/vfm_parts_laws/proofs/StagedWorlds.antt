@@ -28,7 +28,7 @@ use Rattle.vfm_parts.specs.PartsOf.{dev_of, world_of}
 use Rattle.vfm_parts.specs.Steps.{fault_on, after_on}
 use Rattle.vfm_parts.proofs.Listed.{listed_at, length-listed}
 use Rattle.vfm_parts.proofs.Words.{closed_is}
-use Rattle.vfm_parts.proofs.Allowed.{on_begun}
+use Rattle.vfm_parts.proofs.Allowed.{none_is, on_begun}
 use Rattle.vfm_parts.proofs.Faults.{fault_told}
 use Rattle.vfm_parts.proofs.Worlds.{world_tells, world_after}
 use Rattle.vfm_parts_laws.specs.Staged.{staged_dev, staged_world, IsSealed, still_asked, AgreesInRest, IsStagedAfter, is_pass}
@@ -49,10 +49,6 @@ pub staged_rule : (D : Desc) (past : List Entry) (w : World) (entry : Entry) →
 staged_rule D past w entry staged named other =
     fault_same D (parts_in w) (parts_in (world_of D past)) staged.own staged.listed staged.agrees entry named other
     ∙ fault_told D past (parts_in (world_of D past)) (world_tells D past) entry named
-
-none_is : {X : Type 0} (x : Option X) → is_none x ≡ true → x ≡ None
-none_is None e = refl
-none_is (Some x) e = absurd (false≢true e)
 
 pub staged_legal : (D : Desc) (past : List Entry) (w : World) (entry : Entry) → IsLegal D past → IsStagedAfter D past w → IsTrue (is_entry_of D entry)
     → fault_on D w entry ≡ None → IsLegal D (entry ∷ past)
