@@ -1,5 +1,6 @@
 -- What an entry touches decides what it does: parts that agree there allow it alike and become the same there, and
 -- whatever else there is stays as it was.
+use Rattle.std.proofs.lemmas.Bool.{or_parts}
 use Rattle.std.proofs.Common.{◌≡◌, ℕ, ◌+◌, ◌<◌, ◌≤◌, ◌==◌, ◌||◌, Bool, true, false, nat_lt, if◌then◌else◌, List, [], ◌∷◌, refl, ap, ap₂, sym, ◌∙◌, arith, eqb-true, ltb-true, ⊎_elim}
 use Rattle.std.proofs.lemmas.Bool.{eq-eqb, ne_eqb, cond-true, cond-false, cases_lt, and_parts, false≢true, or_right}
 use Rattle.vfm_types.specs.declared.desc.Desc.{Desc}
@@ -138,10 +139,6 @@ all_alike D q p entry agrees lead dev page =
 
 -- ---- a delivery
 
-neither : (a b : Bool) → (a || b) ≡ false → (a ≡ false) × (b ≡ false)
-neither true b e = absurd (false≢true (sym e))
-neither false b e = (refl, e)
-
 module _ (D : Desc) (q p : Parts) (d n : ℕ) (inside : d < device_count D) where
   abbrev region : Region
   region = aim D d n (q.dev d)
@@ -173,8 +170,8 @@ module _ (D : Desc) (q p : Parts) (d n : ℕ) (inside : d < device_count D) wher
   bar_apart k away =
       let both : ((dev_number d == dev_number k) || (region_number D region == dev_number k)) ≡ false =
       sym (order_has (dev_number d) (region_number D region) (dev_number k)) ∙ away in (
-        sym (moved_same d k 1) ∙ (neither (dev_number d == dev_number k) (region_number D region == dev_number k) both).0,
-        at region (neither (dev_number d == dev_number k) (region_number D region == dev_number k) both).1,
+        sym (moved_same d k 1) ∙ (or_parts (dev_number d == dev_number k) (region_number D region == dev_number k) both).0,
+        at region (or_parts (dev_number d == dev_number k) (region_number D region == dev_number k) both).1,
       )
     where
       at : (r : Region) → (region_number D r == dev_number k) ≡ false → is_bar_of k r ≡ false
@@ -183,7 +180,7 @@ module _ (D : Desc) (q p : Parts) (d n : ℕ) (inside : d < device_count D) wher
 
   page_apart : (i : ℕ) → has (page_number D i) reached ≡ false → is_page i region ≡ false
   page_apart i away =
-      at region (neither (dev_number d == page_number D i) (region_number D region == page_number D i)
+      at region (or_parts (dev_number d == page_number D i) (region_number D region == page_number D i)
       (sym (order_has (dev_number d) (region_number D region) (page_number D i)) ∙ away)).1
     where
       at : (r : Region) → (region_number D r == page_number D i) ≡ false → is_page i r ≡ false

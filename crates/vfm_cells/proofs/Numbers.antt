@@ -1,4 +1,5 @@
 -- Which numbers stand in the lists of touched cells.
+use Rattle.std.proofs.Math.Bool.{or-false}
 use Rattle.std.proofs.Common.{◌≡◌, ℕ, zero, suc, ◌+◌, ◌<◌, ◌≤◌, ◌==◌, ◌||◌, Bool, true, false, nat_lt, if◌then◌else◌, [], ◌∷◌, refl, ap, ap₂, ◌∙◌, arith, eqb-true}
 use Rattle.std.proofs.lemmas.Bool.{eq-eqb, ne_eqb, eqb-false}
 use Rattle.vfm_types.specs.declared.desc.Desc.{Desc}
@@ -15,20 +16,16 @@ moved_same a b n =
     (λ here e. let same : a ≡ b = eqb-true a b e in eq-eqb (a + n) (b + n) (ap (λ (k : ℕ). k + n) same))
     (λ away e. ne_eqb (a + n) (b + n) (λ same. eqb-false a b e (omega arith))) refl
 
-or_none : (b : Bool) → (b || false) ≡ b
-or_none true = refl
-or_none false = refl
-
 -- ---- a device's cell alone
 
 pub own_dev : (d k : ℕ) → has (dev_number k) (dev_number d ∷ []) ≡ (d == k)
-own_dev d k = or_none (dev_number d == dev_number k) ∙ moved_same d k 1
+own_dev d k = or-false (dev_number d == dev_number k) ∙ moved_same d k 1
 
 pub own_lead : (d : ℕ) → has 0 (dev_number d ∷ []) ≡ false
-own_lead d = or_none (dev_number d == 0) ∙ ne_eqb (d + 1) 0 (λ same. omega arith)
+own_lead d = or-false (dev_number d == 0) ∙ ne_eqb (d + 1) 0 (λ same. omega arith)
 
 pub own_page : (D : Desc) (d i : ℕ) → d < device_count D → has (page_number D i) (dev_number d ∷ []) ≡ false
-own_page D d i inside = or_none (dev_number d == page_number D i) ∙ ne_eqb (d + 1) (i + (device_count D + 1)) (λ same. omega arith)
+own_page D d i inside = or-false (dev_number d == page_number D i) ∙ ne_eqb (d + 1) (i + (device_count D + 1)) (λ same. omega arith)
 
 -- ---- the coordinator's and a device's
 
@@ -43,12 +40,12 @@ two_page D d i inside = ap₂ (λ (a b : Bool). a || b) (ne_eqb 0 (i + (device_c
 pub copy_dev : (D : Desc) (p k : ℕ) → k < device_count D → has (dev_number k) (0 ∷ page_number D p ∷ []) ≡ false
 copy_dev D p k inside =
     ap₂ (λ (a b : Bool). a || b) (ne_eqb 0 (k + 1) (λ same. omega arith))
-    (or_none (page_number D p == dev_number k) ∙ ne_eqb (p + (device_count D + 1)) (k + 1) (λ same. omega arith))
+    (or-false (page_number D p == dev_number k) ∙ ne_eqb (p + (device_count D + 1)) (k + 1) (λ same. omega arith))
 
 pub copy_page : (D : Desc) (p i : ℕ) → has (page_number D i) (0 ∷ page_number D p ∷ []) ≡ (p == i)
 copy_page D p i =
     ap₂ (λ (a b : Bool). a || b) (ne_eqb 0 (i + (device_count D + 1)) (λ same. omega arith))
-    (or_none (page_number D p == page_number D i) ∙ moved_same p i (device_count D + 1))
+    (or-false (page_number D p == page_number D i) ∙ moved_same p i (device_count D + 1))
 
 -- ---- the coordinator's and every device's
 
@@ -75,7 +72,7 @@ order_has a b c =
     (λ same e. twice (a == c) ∙ ap (λ (k : ℕ). a == c || k == c) (eqb-true a b e))
     (λ apart e. by_bool (nat_lt a b)
     (λ t. has c (if t then a ∷ b ∷ [] else b ∷ a ∷ []) ≡ (a == c || b == c))
-    (λ low. ap (λ (t : Bool). a == c || t) (or_none (b == c)))
+    (λ low. ap (λ (t : Bool). a == c || t) (or-false (b == c)))
     (λ high. swapped (a == c) (b == c))) refl
   where
     twice : (t : Bool) → (t || false) ≡ (t || t)

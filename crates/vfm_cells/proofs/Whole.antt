@@ -1,4 +1,6 @@
 -- The cells of a whole world: what lies in each, and that a step on the touched ones is a step of the whole.
+use Rattle.vfm_parts.proofs.Allowed.{none_is}
+use Rattle.std.proofs.Math.Bool.{or-true, or-false}
 use Rattle.std.proofs.Common.{◌≡◌, ℕ, ◌+◌, ◌-◌, ◌<◌, ◌≤◌, ◌==◌, ◌&&◌, ◌||◌, Bool, true, false, is_none, nat_lt, if◌then◌else◌, List, [], ◌∷◌, map, Option, Some, None, refl, ap, ap₂, sym, ◌∙◌, subst, arith, eqb-true, ltb-true, lt-ltb, ⊎_elim}
 use Rattle.std.proofs.lemmas.Bool.{eq-eqb, ne_eqb, cond-true, cond-false, cases_lt, cases_eq, and_parts, false≢true, le-ltb}
 use Rattle.std.proofs.lemmas.List.{get_or_past}
@@ -119,10 +121,6 @@ either_below D a b c first second among =
     by_bool (a == c) (λ t. (a == c) ≡ t → (t || b == c) ≡ true → c < cell_count D)
     (λ here e h. one_below D a c first e) (λ away e h. one_below D b c second h) refl among
 
-or_false : (b : Bool) → (b || false) ≡ b
-or_false true = refl
-or_false false = refl
-
 dev_below : (D : Desc) (d : ℕ) → d < device_count D → dev_number d < cell_count D
 dev_below D d h = omega arith
 
@@ -135,7 +133,7 @@ region_below D (Bar t) there = dev_below D t (ltb-true t (device_count D) there)
 
 two_below : (D : Desc) (a c : ℕ) → a < cell_count D → has c (0 ∷ a ∷ []) ≡ true → c < cell_count D
 two_below D a c below among =
-    either_below D 0 a c (omega arith) below (ap (λ (b : Bool). 0 == c || b) (sym (or_false (a == c))) ∙ among)
+    either_below D 0 a c (omega arith) below (ap (λ (b : Bool). 0 == c || b) (sym (or-false (a == c))) ∙ among)
 
 all_below : (D : Desc) (c : ℕ) → has c (up_from 0 (device_count D + 1)) ≡ true → c < cell_count D
 all_below D c among =
@@ -149,9 +147,9 @@ all_below D c among =
 touched_below : (D : Desc) (parts : Parts) (entry : Entry) → is_entry_of D entry ≡ true → is_aimed D parts entry ≡ true
     → (c : ℕ) → has c (touched D parts entry) ≡ true → c < cell_count D
 touched_below D parts (Issue d n) named aimed c among =
-    one_below D (dev_number d) c (dev_below D d (ltb-true d (device_count D) named)) (sym (or_false (dev_number d == c)) ∙ among)
+    one_below D (dev_number d) c (dev_below D d (ltb-true d (device_count D) named)) (sym (or-false (dev_number d == c)) ∙ among)
 touched_below D parts (Complete d n) named aimed c among =
-    one_below D (dev_number d) c (dev_below D d (ltb-true d (device_count D) named)) (sym (or_false (dev_number d == c)) ∙ among)
+    one_below D (dev_number d) c (dev_below D d (ltb-true d (device_count D) named)) (sym (or-false (dev_number d == c)) ∙ among)
 touched_below D parts (Deliver d n) named aimed c among =
     let region = aim D d n (parts.dev d) in
     either_below D (dev_number d) (region_number D region) c (dev_below D d (ltb-true d (device_count D) named)) (region_below D region aimed)
@@ -169,11 +167,7 @@ map_same : (cells : List ℕ) (f g : ℕ → Cell) → ((c : ℕ) → has c cell
 map_same [] f g h = refl
 map_same (k ∷ cells) f g h =
     ap₂ (λ (x : Cell) (xs : List Cell). x ∷ xs) (h k (ap (λ (b : Bool). b || has k cells) (eq-eqb k k refl)))
-    (map_same cells f g (λ c among. h c (ap (λ (b : Bool). k == c || b) among ∙ or_true (k == c))))
-  where
-    or_true : (b : Bool) → (b || true) ≡ true
-    or_true true = refl
-    or_true false = refl
+    (map_same cells f g (λ c among. h c (ap (λ (b : Bool). k == c || b) among ∙ or-true (k == c))))
 
 same_list_is : (xs ys : List ℕ) → is_same_list xs ys ≡ true → xs ≡ ys
 same_list_is [] [] e = refl
@@ -186,10 +180,6 @@ same_list_is (x ∷ xs) (y ∷ ys) e =
 same_list_refl : (xs : List ℕ) → is_same_list xs xs ≡ true
 same_list_refl [] = refl
 same_list_refl (x ∷ xs) = ap₂ (λ (a b : Bool). a && b) (eq-eqb x x refl) (same_list_refl xs)
-
-none_is : {X : Type 0} (x : Option X) → is_none x ≡ true → x ≡ None
-none_is None e = refl
-none_is (Some x) e = absurd (false≢true e)
 
 made_of : {X : Type 0} (b : Bool) (x y : X) → (if b then Some x else None) ≡ Some y → (b ≡ true) × (x ≡ y)
 made_of true x y e = (refl, cc)

@@ -1,5 +1,5 @@
 -- What an entry that breaks no rule says of the list before it, where the laws on effects need it.
-use Rattle.std.proofs.Common.{◌≡◌, ℕ, ◌+◌, ◌<◌, ◌==◌, Bool, true, false, not, ◌&&◌, ◌||◌, if◌then◌else◌, nat_le, nat_lt, List, [], ◌∷◌, Option, Some, None, IsTrue, refl, ap, sym, ◌∙◌, arith, eqb-true}
+use Rattle.std.proofs.Common.{◌≡◌, ℕ, ◌+◌, ◌<◌, ◌==◌, Bool, true, false, not, ◌&&◌, ◌||◌, if◌then◌else◌, nat_le, nat_lt, is_none, List, [], ◌∷◌, Option, Some, None, IsTrue, refl, ap, sym, ◌∙◌, arith, eqb-true}
 use Rattle.std.proofs.lemmas.Bool.{and_parts, not-true, false≢true}
 use Rattle.vfm_types.specs.declared.desc.Desc.{Desc}
 use Rattle.vfm_types.specs.declared.entry.Entry.{Entry}
@@ -22,6 +22,11 @@ use Rattle.vfm_plain.specs.BeginRules.{may_begin_move}
 use Rattle.vfm_plain.specs.ResumeRules.{is_state_copied}
 use Rattle.vfm_laws.proofs.Below.{all_below_at}
 use Rattle.vfm_laws.proofs.Conditions.{met}
+
+-- an option that is nothing
+pub none_is : {X : Type 0} (x : Option X) → is_none x ≡ true → x ≡ None
+none_is None e = refl
+none_is (Some x) e = absurd (false≢true e)
 
 -- a move that is on has begun, and was neither given up nor taken over
 pub on_begun : (past : List Entry) → is_on past ≡ true → is_begun past ≡ true

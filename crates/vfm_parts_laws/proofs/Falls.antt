@@ -1,7 +1,7 @@
 -- What is left to the parts falls with each allowed entry: the pieces.
-use Rattle.std.proofs.Common.{◌≡◌, ℕ, zero, suc, ◌+◌, ◌-◌, ◌*◌, ◌<◌, ◌≤◌, ◌==◌, ◌&&◌, ◌||◌, not, Bool, true, false, is_none, nat_le, nat_lt, if◌then◌else◌, List, [], ◌∷◌, ◌++◌, length, slice_index_or, slice_set, Option, Some, None, refl, ap, ap₂, sym, ◌∙◌, subst, arith, eqb-true, ltb-true, lt-ltb, length-append, mul-le-mul_right, suc-mul, le_refl}
-use Rattle.std.proofs.lemmas.Bool.{and_parts, not-true, false≢true, true≢false, cond-true, cond-false, eq-eqb, eqb-false, ltb-false}
-use Rattle.std.proofs.lemmas.List.{get_or-set_same, get_or-set_other}
+use Rattle.std.proofs.lemmas.Option.{none-some}
+use Rattle.std.proofs.Common.{◌≡◌, ℕ, zero, suc, ◌+◌, ◌-◌, ◌*◌, ◌<◌, ◌≤◌, ◌==◌, ◌&&◌, not, Bool, true, false, nat_lt, if◌then◌else◌, List, [], ◌∷◌, ◌++◌, length, Option, Some, None, refl, ap, sym, ◌∙◌, subst, arith, eqb-true, ltb-true, lt-ltb, length-append, mul-le-mul_right, suc-mul}
+use Rattle.std.proofs.lemmas.Bool.{false≢true, true≢false, cond-true, cond-false}
 use Rattle.vfm_types.specs.declared.desc.Desc.{Desc}
 use Rattle.vfm_types.specs.declared.job.Job.{Job}
 use Rattle.vfm_types.specs.declared.state.MigState.{MigState}
@@ -12,13 +12,13 @@ use Rattle.vfm_base.specs.Least.{least_from, least_below, count_below}
 use Rattle.vfm_base.specs.PageSet.{contains_page, least_page_from}
 use Rattle.vfm_types.specs.State.{has_p2p}
 use Rattle.vfm_types.specs.Paths.{same_state, next_towards}
-use Rattle.vfm_types.specs.Desc.{device_count, shape_at, bar_bytes, block_count}
+use Rattle.vfm_types.specs.Desc.{device_count, shape_at, bar_bytes}
 use Rattle.vfm_types.specs.Job.{place_of, length_of}
 use Rattle.vfm_types.specs.Requests.{job_or_zero, without}
-use Rattle.vfm_types.specs.Outstanding.{Outstanding, deliver_if, complete_if, is_undelivered, is_arrived}
+use Rattle.vfm_types.specs.Outstanding.{deliver_if, complete_if, is_undelivered, is_arrived}
 use Rattle.vfm_types.specs.Arcs.{is_stopped}
 use Rattle.vfm_plain.specs.Condition.{is_exactly}
-use Rattle.vfm_laws.specs.Queues.{QueueKept, waiting, is_listed}
+use Rattle.vfm_laws.specs.Queues.{waiting, is_listed}
 use Rattle.vfm_laws.specs.Standing.{is_hold_step}
 use Rattle.vfm_laws.proofs.Rising.{by_bool, length_without, listed_front, length_numbered}
 use Rattle.vfm_laws.proofs.Waiting.{issued_waiting, delivered_waiting, completed_waiting, undelivered_listed, delivered_length}
@@ -30,13 +30,12 @@ use Rattle.vfm_parts.specs.Fits.{IsSetBelow, DevFits}
 use Rattle.vfm_parts.specs.IssueStep.{issue_conditions_in, is_next_to_issue_in, is_request_allowed_in, may_issue_yet_in, issued_dev}
 use Rattle.vfm_parts.specs.DeliverStep.{deliver_conditions_in, delivered_dev, struck_dev, target_after_job}
 use Rattle.vfm_parts.specs.CompleteStep.{complete_conditions_in, completed_dev}
-use Rattle.vfm_parts.specs.Steps.{with_dev}
 use Rattle.vfm_parts.proofs.Sets.{least_is, size_is}
 use Rattle.vfm_parts_laws.specs.Room.{sum_below, is_over, arcs_home, steps_out, hold_made, moves_left, requests_left, reads_left, report_left, device_left, DevStands}
 use Rattle.vfm_parts_laws.proofs.FittingQueues.{turn_in, length_completed, length_push}
-use Rattle.vfm_parts_laws.proofs.FittingTargets.{PlainKept, kept_target}
+use Rattle.vfm_parts_laws.proofs.FittingTargets.{kept_target}
 use Rattle.vfm_parts_laws.proofs.Standing.{Way, home, early, held, final}
-use Rattle.vfm_parts_laws.proofs.Sums.{sum_less, sum_le, count_less}
+use Rattle.vfm_parts_laws.proofs.Sums.{sum_less, count_less}
 
 -- ---- requests
 
@@ -147,10 +146,10 @@ made_few : (hold : Option MigState) → hold_made hold ≤ 1
 made_few None = omega arith
 made_few (Some to) = omega arith
 
-out_is : (lead : Lead) (dev : Dev) → is_over lead ≡ false → moves_left lead dev ≡ steps_out dev.state - hold_made dev.hold + 3
+pub out_is : (lead : Lead) (dev : Dev) → is_over lead ≡ false → moves_left lead dev ≡ steps_out dev.state - hold_made dev.hold + 3
 out_is lead dev moving = cond-false _ _ _ moving
 
-home_is : (lead : Lead) (dev : Dev) → is_over lead ≡ true → moves_left lead dev ≡ arcs_home dev.state
+pub home_is : (lead : Lead) (dev : Dev) → is_over lead ≡ true → moves_left lead dev ≡ arcs_home dev.state
 home_is lead dev over = cond-true _ _ _ over
 
 pub hold_falls : (lead : Lead) (dev : Dev) (to : MigState) → DevStands lead dev → is_over lead ≡ false → dev.hold ≡ None → is_stopped dev.state ≡ false
@@ -194,10 +193,7 @@ arc_falls D lead dev d to arcs stands (final moving from is) =
 -- ---- pages and blocks
 
 least_passes : (i n : ℕ) (test : ℕ → Bool) (d : ℕ) → least_from i n test ≡ Some d → test d ≡ true
-least_passes i zero test d found = absurd (none_some d found)
-  where
-    none_some : (x : ℕ) → None ≡ Some x → ⊥
-    none_some x same = cc
+least_passes i zero test d found = absurd (none-some d found)
 least_passes i (suc n) test d found =
     by_bool (test i) (λ b. test i ≡ b → (if b then Some i else least_from (i + 1) n test) ≡ Some d → test d ≡ true)
     (λ passes t e. let same : i ≡ d = cc in ap test (sym same) ∙ t)

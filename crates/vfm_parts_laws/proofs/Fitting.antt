@@ -1,5 +1,6 @@
 -- Each allowed entry keeps what every part satisfies by itself.
-use Rattle.std.proofs.Common.{◌≡◌, ℕ, ◌+◌, ◌-◌, ◌<◌, ◌≤◌, ◌==◌, ◌&&◌, ◌||◌, not, Bool, true, false, nat_le, nat_lt, if◌then◌else◌, List, [], ◌∷◌, length, slice_index_or, slice_set, Option, Some, None, IsTrue, refl, ap, ap₂, sym, ◌∙◌, subst, arith, eqb-true, ltb-true, ⊎_elim}
+use Rattle.std.proofs.lemmas.Bool.{or_parts}
+use Rattle.std.proofs.Common.{◌≡◌, ℕ, ◌+◌, ◌-◌, ◌<◌, ◌≤◌, ◌==◌, ◌&&◌, ◌||◌, not, Bool, true, false, nat_le, nat_lt, if◌then◌else◌, List, [], ◌∷◌, length, slice_index_or, slice_set, Option, Some, None, refl, ap, sym, ◌∙◌, subst, arith, eqb-true, ltb-true, ⊎_elim}
 use Rattle.std.proofs.lemmas.Bool.{and_parts, not-true, false≢true, true≢false, cases_eq, cases_lt, eqb-false, leb-false, ltb-false}
 use Rattle.std.proofs.lemmas.List.{get_or-set_same, get_or-set_other, set_past, length-set}
 use Rattle.vfm_types.specs.declared.desc.Desc.{Desc}
@@ -21,7 +22,7 @@ use Rattle.vfm_plain.specs.Legal.{is_entry_of}
 use Rattle.vfm_plain.specs.Shape.{LiesIn, Lies}
 use Rattle.vfm_laws.proofs.Rising.{by_bool}
 use Rattle.vfm_laws.proofs.Conditions.{met}
-use Rattle.vfm_parts.specs.Parts.{Dev, Lead, Parts, listed, numbers_below, one_more}
+use Rattle.vfm_parts.specs.Parts.{Dev, Lead, Parts, numbers_below, one_more}
 use Rattle.vfm_parts.specs.PartWords.{is_on_in, is_no_pass_open_in, has_reported_in, is_decided_in, blocks_left_in}
 use Rattle.vfm_parts.specs.Fits.{IsSetBelow, DevFits, LeadFits, PageFits, PartsFit}
 use Rattle.vfm_parts.specs.IssueStep.{issued_dev}
@@ -33,9 +34,6 @@ use Rattle.vfm_parts.specs.FailStep.{failed_dev}
 use Rattle.vfm_parts.specs.ReportStep.{reported_dev, reported_lead}
 use Rattle.vfm_parts.specs.PassStep.{is_next_pass_in, is_pass_wanted_in, pass_pages, part_size, passed_lead}
 use Rattle.vfm_parts.specs.BlockStep.{read_dev, read_lead}
-use Rattle.vfm_parts.specs.BeginStep.{begun_dev}
-use Rattle.vfm_parts.specs.AbortStep.{aborted_dev}
-use Rattle.vfm_parts.specs.ResumeStep.{resumed_dev}
 use Rattle.vfm_parts.specs.Steps.{fault_in, with_dev, parts_after, dev_after, page_after}
 use Rattle.vfm_parts.proofs.Listed.{listed_at, length-listed}
 use Rattle.vfm_parts_laws.proofs.FittingQueues.{set_fits, empty_fits, issue_fits, complete_fits, own_deliver_fits, job_lies}
@@ -169,25 +167,21 @@ flags_fit D lead begun joint aborted resumed failed fits =
 few_passes : (rounds passes : ℕ) (closed few : Bool) → closed ≡ true → (rounds == 0 || (nat_lt 0 passes && closed && (nat_le rounds passes || few))) ≡ false
     → passes + 1 ≤ rounds
 few_passes rounds passes closed few is undecided =
-    let parts = neither (rounds == 0) (nat_lt 0 passes && closed && (nat_le rounds passes || few)) undecided in
+    let parts = or_parts (rounds == 0) (nat_lt 0 passes && closed && (nat_le rounds passes || few)) undecided in
     let some : rounds ≡ 0 → ⊥ = eqb-false rounds 0 parts.0 in
     by_bool (nat_lt 0 passes)
     (λ b. nat_lt 0 passes ≡ b → (b && closed && (nat_le rounds passes || few)) ≡ false → passes + 1 ≤ rounds)
     (λ later e h.
     let open_ : (nat_le rounds passes || few) ≡ false = sym (ap (λ (c : Bool). c && (nat_le rounds passes || few)) is) ∙ h in
-    let low : passes < rounds = leb-false rounds passes (neither (nat_le rounds passes) few open_).0 in omega arith)
+    let low : passes < rounds = leb-false rounds passes (or_parts (nat_le rounds passes) few open_).0 in omega arith)
     (λ first e h. let none : passes ≤ 0 = ltb-false 0 passes e in omega (arith, some)) refl parts.1
-  where
-    neither : (a b : Bool) → (a || b) ≡ false → (a ≡ false) × (b ≡ false)
-    neither true b e = absurd (false≢true (sym e))
-    neither false b e = (refl, e)
 
 next_closed : (D : Desc) (k : ℕ) (lead : Lead) → is_next_pass_in D k lead ≡ true → is_no_pass_open_in D lead ≡ true
 next_closed D k lead next =
     (and_parts (k == lead.passes + 1) (is_no_pass_open_in D lead)
     (and_parts (k == lead.passes + 1 && is_no_pass_open_in D lead) (nat_le k 1 || all_below (device_count D) (λ d. has_reported_in lead d)) next).0).1
 
-pass_few : (D : Desc) (k : ℕ) (lead : Lead) (devs : ℕ → Dev) → LeadFits D lead → is_next_pass_in D k lead ≡ true → is_pass_wanted_in D k lead devs ≡ true
+pub pass_few : (D : Desc) (k : ℕ) (lead : Lead) (devs : ℕ → Dev) → LeadFits D lead → is_next_pass_in D k lead ≡ true → is_pass_wanted_in D k lead devs ≡ true
     → (lead.passes + 1 ≤ D.rounds + 1) × (lead.joint ≡ false → lead.passes + 1 ≤ D.rounds)
 pass_few D k lead devs fits next wanted =
     by_bool lead.joint
@@ -202,7 +196,7 @@ pass_few D k lead devs fits next wanted =
     ready : Bool
     ready = not (k == 1) || all_below (device_count D) (λ d. not (has_pre_copy (shape_at D d).flags) || same_state (devs d).state PreCopy)
 
-pass_fits : (D : Desc) (k : ℕ) (lead : Lead) (devs : ℕ → Dev) → LeadFits D lead → is_next_pass_in D k lead ≡ true → is_pass_wanted_in D k lead devs ≡ true
+pub pass_fits : (D : Desc) (k : ℕ) (lead : Lead) (devs : ℕ → Dev) → LeadFits D lead → is_next_pass_in D k lead ≡ true → is_pass_wanted_in D k lead devs ≡ true
     → LeadFits D (passed_lead D k devs lead)
 pass_fits D k lead devs fits next wanted =
     let few = pass_few D k lead devs fits next wanted in
@@ -243,24 +237,39 @@ step_fits D parts (Complete d n) valid fits named fine =
 step_fits D parts (Hold d to) valid fits named fine =
     let dev = parts.dev d in
     let own = fits.dev d (ltb-true d (device_count D) named) in
-    record { lead = fits.lead; page = fits.page; dev = one_fits D parts d (held_dev to dev) fits.dev
-        (other_fits D d dev dev.state (Some to) dev.arcs dev.logging dev.released dev.marks dev.unread dev.dirty own own.arcs own.marks own.unread own.dirty) }
+    record {
+      lead = fits.lead;
+      page = fits.page;
+      dev = one_fits D parts d (held_dev to dev) fits.dev
+          (other_fits D d dev dev.state (Some to) dev.arcs dev.logging dev.released dev.marks dev.unread dev.dirty own own.arcs own.marks own.unread own.dirty);
+    }
 step_fits D parts (Arc d to) valid fits named fine =
     let dev = parts.dev d in
     let own = fits.dev d (ltb-true d (device_count D) named) in
-    record { lead = fits.lead; page = fits.page; dev = one_fits D parts d (moved_dev to dev) fits.dev
-        (other_fits D d dev to None (one_more dev.arcs) dev.logging dev.released dev.marks dev.unread dev.dirty own (most_arcs dev.arcs) own.marks own.unread own.dirty) }
+    record {
+      lead = fits.lead;
+      page = fits.page;
+      dev = one_fits D parts d (moved_dev to dev) fits.dev
+          (other_fits D d dev to None (one_more dev.arcs) dev.logging dev.released dev.marks dev.unread dev.dirty own (most_arcs dev.arcs) own.marks own.unread own.dirty);
+    }
 step_fits D parts (Fail d to) valid fits named fine =
     let dev = parts.dev d in
     let own = fits.dev d (ltb-true d (device_count D) named) in
-    record { lead = flags_fit D parts.lead parts.lead.begun parts.lead.joint parts.lead.aborted parts.lead.resumed true fits.lead; page = fits.page;
-        dev = one_fits D parts d (failed_dev dev) fits.dev
-        (other_fits D d dev dev.state dev.hold (one_more dev.arcs) dev.logging dev.released dev.marks dev.unread dev.dirty own (most_arcs dev.arcs) own.marks own.unread own.dirty) }
+    record {
+      lead = flags_fit D parts.lead parts.lead.begun parts.lead.joint parts.lead.aborted parts.lead.resumed true fits.lead;
+      page = fits.page;
+      dev = one_fits D parts d (failed_dev dev) fits.dev
+          (other_fits D d dev dev.state dev.hold (one_more dev.arcs) dev.logging dev.released dev.marks dev.unread dev.dirty own (most_arcs dev.arcs) own.marks own.unread own.dirty);
+    }
 step_fits D parts (Report d) valid fits named fine =
     let dev = parts.dev d in
     let own = fits.dev d (ltb-true d (device_count D) named) in
-    record { lead = report_fits D parts.lead d dev.marks fits.lead; page = fits.page; dev = one_fits D parts d (reported_dev dev) fits.dev
-        (other_fits D d dev dev.state dev.hold dev.arcs dev.logging dev.released [] dev.unread dev.dirty own own.arcs (empty_fits D.pages) own.unread own.dirty) }
+    record {
+      lead = report_fits D parts.lead d dev.marks fits.lead;
+      page = fits.page;
+      dev = one_fits D parts d (reported_dev dev) fits.dev
+          (other_fits D d dev dev.state dev.hold dev.arcs dev.logging dev.released [] dev.unread dev.dirty own own.arcs (empty_fits D.pages) own.unread own.dirty);
+    }
 step_fits D parts (Pass k) valid fits named fine =
     let order = met (is_on_in parts.lead) Order ((is_next_pass_in D k parts.lead, Pages) ∷ (is_pass_wanted_in D k parts.lead parts.dev, Decide) ∷ []) fine in
     let next = met (is_next_pass_in D k parts.lead) Pages ((is_pass_wanted_in D k parts.lead parts.dev, Decide) ∷ []) order.1 in
@@ -286,22 +295,35 @@ step_fits D parts (Block d b) valid fits named fine =
     let dev = parts.dev d in
     let inside = ltb-true d (device_count D) (and_parts (nat_lt d (device_count D)) (nat_lt b (block_count (shape_at D d))) named).0 in
     let own = fits.dev d inside in
-    record { lead = read_fits D parts.lead d inside fits.lead; page = fits.page; dev = one_fits D parts d (read_dev D d b dev) fits.dev
-        (other_fits D d dev dev.state dev.hold dev.arcs dev.logging dev.released dev.marks (read_dev D d b dev).unread (read_dev D d b dev).dirty own own.arcs own.marks
-        (set_fits (block_count (shape_at D d)) _) (set_fits (block_count (shape_at D d)) _)) }
+    record {
+      lead = read_fits D parts.lead d inside fits.lead;
+      page = fits.page;
+      dev = one_fits D parts d (read_dev D d b dev) fits.dev
+          (other_fits D d dev dev.state dev.hold dev.arcs dev.logging dev.released dev.marks (read_dev D d b dev).unread (read_dev D d b dev).dirty own own.arcs own.marks
+          (set_fits (block_count (shape_at D d)) _) (set_fits (block_count (shape_at D d)) _));
+    }
 step_fits D parts (Dry d) valid fits named fine =
     record { lead = parts_fit D parts.lead d 0 fits.lead (omega arith); dev = fits.dev; page = fits.page }
 step_fits D parts Begin valid fits named fine =
-    record { lead = flags_fit D parts.lead true parts.lead.joint parts.lead.aborted parts.lead.resumed parts.lead.failed fits.lead; page = fits.page;
-        dev = λ k h. let dev = parts.dev k in let own = fits.dev k h in
-        other_fits D k dev dev.state dev.hold dev.arcs true dev.released [] dev.unread dev.dirty own own.arcs (empty_fits D.pages) own.unread own.dirty }
+    record {
+      lead = flags_fit D parts.lead true parts.lead.joint parts.lead.aborted parts.lead.resumed parts.lead.failed fits.lead;
+      page = fits.page;
+      dev = λ k h. let dev = parts.dev k in let own = fits.dev k h in
+          other_fits D k dev dev.state dev.hold dev.arcs true dev.released [] dev.unread dev.dirty own own.arcs (empty_fits D.pages) own.unread own.dirty;
+    }
 step_fits D parts Joint valid fits named fine =
     record { lead = flags_fit D parts.lead parts.lead.begun true parts.lead.aborted parts.lead.resumed parts.lead.failed fits.lead; dev = fits.dev; page = fits.page }
 step_fits D parts Abort valid fits named fine =
-    record { lead = flags_fit D parts.lead parts.lead.begun parts.lead.joint true parts.lead.resumed false fits.lead; page = fits.page;
-        dev = λ k h. let dev = parts.dev k in let own = fits.dev k h in
-        other_fits D k dev dev.state None dev.arcs dev.logging true dev.marks dev.unread dev.dirty own own.arcs own.marks own.unread own.dirty }
+    record {
+      lead = flags_fit D parts.lead parts.lead.begun parts.lead.joint true parts.lead.resumed false fits.lead;
+      page = fits.page;
+      dev = λ k h. let dev = parts.dev k in let own = fits.dev k h in
+          other_fits D k dev dev.state None dev.arcs dev.logging true dev.marks dev.unread dev.dirty own own.arcs own.marks own.unread own.dirty;
+    }
 step_fits D parts Resume valid fits named fine =
-    record { lead = flags_fit D parts.lead parts.lead.begun parts.lead.joint parts.lead.aborted true parts.lead.failed fits.lead; page = fits.page;
-        dev = λ k h. let dev = parts.dev k in let own = fits.dev k h in
-        other_fits D k dev Resuming dev.hold dev.arcs false true [] [] [] own own.arcs (empty_fits D.pages) (empty_fits (block_count (shape_at D k))) (empty_fits (block_count (shape_at D k))) }
+    record {
+      lead = flags_fit D parts.lead parts.lead.begun parts.lead.joint parts.lead.aborted true parts.lead.failed fits.lead;
+      page = fits.page;
+      dev = λ k h. let dev = parts.dev k in let own = fits.dev k h in
+          other_fits D k dev Resuming dev.hold dev.arcs false true [] [] [] own own.arcs (empty_fits D.pages) (empty_fits (block_count (shape_at D k))) (empty_fits (block_count (shape_at D k)));
+    }

@@ -1,29 +1,28 @@
 -- A device's requests fit after its own entries: Issue, Complete, and the issuer's side of a Deliver.
-use Rattle.std.proofs.Common.{◌≡◌, ℕ, zero, suc, ◌+◌, ◌<◌, ◌≤◌, ◌==◌, ◌&&◌, ◌||◌, not, Bool, true, false, nat_lt, if◌then◌else◌, List, [], ◌∷◌, ◌++◌, length, take, drop, All, Option, Some, None, IsTrue, refl, ap, ap₂, sym, ◌∙◌, subst, arith, ltb-true, append-nil, length-take, length-append}
+use Rattle.std.proofs.Common.{◌≡◌, ℕ, ◌+◌, ◌<◌, ◌≤◌, ◌==◌, ◌&&◌, ◌||◌, not, Bool, true, nat_lt, if◌then◌else◌, List, [], ◌∷◌, ◌++◌, length, take, drop, All, None, refl, ap, sym, ◌∙◌, subst, arith, ltb-true, append-nil, length-take, length-append}
 use Rattle.std.proofs.lemmas.Bool.{and_parts, not-true, false≢true}
 use Rattle.std.proofs.lemmas.List.Elements.{All-tail, All-head, All-cons, All-push}
 use Rattle.vfm_types.specs.declared.desc.Desc.{Desc}
 use Rattle.vfm_types.specs.declared.job.Job.{Job}
 use Rattle.vfm_types.specs.declared.job.Job.TheVariants.{Write, Read, Store, Add}
-use Rattle.vfm_types.specs.declared.entry.Entry.TheVariants.{Issue, Deliver, Complete}
 use Rattle.vfm_types.specs.declared.entry.Rule.TheVariants.{Turn, Barred, Start}
 use Rattle.vfm_base.specs.Tests.{first_failed}
 use Rattle.vfm_base.specs.PageSet.{contains_page}
-use Rattle.vfm_types.specs.Desc.{device_count, shape_at, job_at, block_count}
+use Rattle.vfm_types.specs.Desc.{device_count, shape_at, job_at}
 use Rattle.vfm_types.specs.Job.{place_of, length_of}
-use Rattle.vfm_types.specs.Machine.{DeviceState, splice}
+use Rattle.vfm_types.specs.Machine.{DeviceState}
 use Rattle.vfm_types.specs.Requests.{fences, job_or_zero, without, taken}
-use Rattle.vfm_types.specs.Outstanding.{Outstanding, deliver_if, complete_if, is_undelivered, is_arrived, is_outstanding, unissued, outstanding_job_or_zero}
+use Rattle.vfm_types.specs.Outstanding.{Outstanding, deliver_if, complete_if, is_undelivered, is_arrived, unissued, outstanding_job_or_zero}
 use Rattle.vfm_types.specs.Marks.{writes_page}
 use Rattle.vfm_types.specs.Valid.{IsValid, IsSoundJob}
 use Rattle.vfm_types.specs.Words.{has_fence, is_nothing}
 use Rattle.vfm_plain.specs.Condition.{is_exactly}
 use Rattle.vfm_plain.specs.IssueRules.{first_number}
-use Rattle.vfm_plain.specs.Shape.{DeviceHasShape, Lies}
+use Rattle.vfm_plain.specs.Shape.{Lies}
 use Rattle.vfm_plain.proofs.Sound.{sound_job, job_in_range, lies_of_job, some_bytes}
 use Rattle.vfm_plain.proofs.Steps.{free_job, length-splice}
-use Rattle.vfm_laws.specs.Queues.{QueueKept, IsGrown, waiting, is_listed}
-use Rattle.vfm_laws.proofs.Rising.{by_bool, length_without, listed_front}
+use Rattle.vfm_laws.specs.Queues.{IsGrown, waiting}
+use Rattle.vfm_laws.proofs.Rising.{by_bool, length_without}
 use Rattle.vfm_laws.proofs.Waiting.{issued_waiting, delivered_waiting, completed_waiting, undelivered_listed, delivered_length}
 use Rattle.vfm_laws.proofs.Conditions.{met, HasTurn}
 use Rattle.vfm_laws.proofs.Queued.{issued, turn_head, queue_issued, queue_taken, queue_grown, queue_completed}

@@ -1,21 +1,20 @@
 -- The target's side of a Deliver fits: the device into whose BARs a job is, and the page.
-use Rattle.std.proofs.Common.{◌≡◌, ℕ, ◌+◌, ◌<◌, ◌≤◌, ◌==◌, ◌&&◌, ◌||◌, not, Bool, true, false, nat_lt, if◌then◌else◌, List, [], ◌∷◌, ◌++◌, length, take, drop, All, refl, ap, sym, ◌∙◌, subst, arith, ltb-true, append-nil, length-take}
+use Rattle.std.proofs.Common.{◌≡◌, ℕ, ◌+◌, ◌<◌, ◌≤◌, ◌&&◌, ◌||◌, not, nat_lt, if◌then◌else◌, List, [], ◌∷◌, length, take, drop, refl, ◌∙◌, arith, ltb-true, length-take}
 use Rattle.std.proofs.lemmas.Bool.{and_parts}
 use Rattle.std.proofs.lemmas.List.Elements.{All-push}
 use Rattle.std.specs.Int.{w64, from_le_bytes}
 use Rattle.vfm_types.specs.declared.desc.Desc.{Desc}
-use Rattle.vfm_types.specs.declared.desc.DevShape.{DevShape}
 use Rattle.vfm_types.specs.declared.job.Job.{Job}
 use Rattle.vfm_types.specs.declared.job.Job.TheVariants.{Write, Read, Store, Add}
 use Rattle.vfm_types.specs.declared.job.Place.{Place}
 use Rattle.vfm_base.specs.PageSet.{contains_page}
-use Rattle.vfm_types.specs.Desc.{device_count, shape_at, bar_bytes, block_count}
+use Rattle.vfm_types.specs.Desc.{shape_at, bar_bytes, block_count}
 use Rattle.vfm_types.specs.Job.{place_of, length_of, is_bell}
 use Rattle.vfm_types.specs.Machine.{DeviceState, splice, added, with_accepted_request}
 use Rattle.vfm_types.specs.Blocks.{writes_block}
 use Rattle.vfm_plain.specs.Shape.{DeviceHasShape}
 use Rattle.vfm_plain.proofs.Steps.{length-splice}
-use Rattle.vfm_laws.specs.Queues.{QueueKept, IsGrown}
+use Rattle.vfm_laws.specs.Queues.{IsGrown}
 use Rattle.vfm_laws.proofs.Rising.{by_bool}
 use Rattle.vfm_laws.proofs.Queued.{queue_grown}
 use Rattle.vfm_parts.specs.Parts.{Dev, numbers_below, one_more}

@@ -1,19 +1,18 @@
 -- The parts fit at first, after every legal list, and where they are staged.
-use Rattle.std.proofs.Common.{◌≡◌, ℕ, ◌+◌, ◌<◌, ◌≤◌, false, true, All, List, [], ◌∷◌, length, None, IsTrue, refl, ap, sym, ◌∙◌, subst, arith}
+use Rattle.std.proofs.Common.{◌≡◌, ℕ, ◌<◌, ◌≤◌, false, true, List, [], ◌∷◌, length, None, IsTrue, refl, sym, ◌∙◌, subst, arith}
 use Rattle.std.proofs.lemmas.List.Elements.{All-nil}
 use Rattle.vfm_types.specs.declared.desc.Desc.{Desc}
 use Rattle.vfm_types.specs.declared.entry.Entry.{Entry}
 use Rattle.vfm_types.specs.Desc.{device_count, shape_at, block_count}
 use Rattle.vfm_types.specs.Machine.{Machine, device_of}
 use Rattle.vfm_types.specs.Deliveries.{page_bytes}
-use Rattle.vfm_types.specs.Outstanding.{Outstanding}
 use Rattle.vfm_types.specs.Valid.{IsValid}
 use Rattle.vfm_plain.specs.Legal.{IsLegal, is_entry_of}
-use Rattle.vfm_plain.specs.Shape.{HasShape, HasCounts, IsSound}
+use Rattle.vfm_plain.specs.Shape.{HasShape, HasCounts}
 use Rattle.vfm_plain.proofs.Effects.{described_sound, can_lose}
-use Rattle.vfm_laws.specs.Queues.{QueueKept, IsRising, waiting}
+use Rattle.vfm_laws.specs.Queues.{QueueKept, IsRising}
 use Rattle.vfm_laws.proofs.KeptQueues.{keeps_queues}
-use Rattle.vfm_parts.specs.Parts.{Dev, Lead, World, Parts, parts_in, no_dev, listed}
+use Rattle.vfm_parts.specs.Parts.{World, parts_in, no_dev}
 use Rattle.vfm_parts.specs.PartsOf.{dev_of, lead_of, page_of, world_of, blocks_left}
 use Rattle.vfm_parts.specs.Start.{first_world}
 use Rattle.vfm_parts.specs.Fits.{DevFits, LeadFits, PageFits, PartsFit}
@@ -21,7 +20,7 @@ use Rattle.vfm_parts.specs.Steps.{fault_in, parts_after, dev_after, page_after, 
 use Rattle.vfm_parts.proofs.Listed.{listed_at, length-listed}
 use Rattle.vfm_parts.proofs.Faults.{fault_told}
 use Rattle.vfm_parts.proofs.Worlds.{world_tells, world_first, world_after}
-use Rattle.vfm_parts_laws.specs.Staged.{staged_dev, staged_lead, staged_world}
+use Rattle.vfm_parts_laws.specs.Staged.{staged_dev, staged_world}
 use Rattle.vfm_parts_laws.proofs.FittingQueues.{set_fits, empty_fits}
 use Rattle.vfm_parts_laws.proofs.Fitting.{step_fits}
 

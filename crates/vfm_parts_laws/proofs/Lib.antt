@@ -9,3 +9,5 @@ pub mod FittingWorlds
 pub mod Sums
 pub mod Standing
 pub mod Falls
+pub mod EntriesFall
+pub mod RoomWorlds

@@ -1,29 +1,28 @@
 -- What is seen of the parts of a list is what the list says.
-use Rattle.std.proofs.Common.{◌≡◌, ℕ, zero, suc, ◌+◌, ◌<◌, ◌&&◌, ◌||◌, not, Bool, true, false, is_none, nat_lt, if◌then◌else◌, List, [], ◌∷◌, length, slice_index_or, Option, Some, None, unwrap_or, refl, ap, ap₂, sym, ◌∙◌, arith, true≢false}
-use Rattle.std.proofs.lemmas.Bool.{cond-true, cond-false}
+use Rattle.std.proofs.lemmas.Option.{none-some}
+use Rattle.std.proofs.lemmas.Bool.{or_parts}
+use Rattle.std.proofs.Common.{◌≡◌, ℕ, zero, suc, ◌+◌, ◌<◌, ◌||◌, Bool, true, false, is_none, nat_lt, if◌then◌else◌, List, [], ◌∷◌, length, slice_index_or, Option, Some, None, unwrap_or, refl, ap, ◌∙◌, arith, true≢false}
 use Rattle.vfm_types.specs.declared.desc.Desc.{Desc}
 use Rattle.vfm_types.specs.declared.entry.Entry.{Entry}
-use Rattle.vfm_types.specs.declared.entry.Rule.{Rule}
 use Rattle.vfm_types.specs.declared.entry.Rule.TheVariants.{Turn, Barred, Start}
 use Rattle.vfm_types.specs.declared.state.MigState.{MigState}
-use Rattle.vfm_types.specs.declared.look.DevLook.{DevLook}
 use Rattle.vfm_base.specs.Tests.{first_failed}
-use Rattle.vfm_base.specs.Least.{least_from, least_below}
+use Rattle.vfm_base.specs.Least.{least_from}
 use Rattle.vfm_base.specs.PageSet.{contains_page}
 use Rattle.vfm_base.proofs.LeastPages.{least_below_none}
-use Rattle.vfm_types.specs.Desc.{device_count, shape_at, block_count}
+use Rattle.vfm_types.specs.Desc.{device_count}
 use Rattle.vfm_types.specs.Phases.{is_begun, is_aborted, is_resumed}
 use Rattle.vfm_types.specs.Outstanding.{issue_count}
 use Rattle.vfm_types.specs.Marks.{is_in_set, set_size}
-use Rattle.vfm_types.specs.Blocks.{is_unread, is_dirty, next_part, next_block, has_part}
+use Rattle.vfm_types.specs.Blocks.{next_part, next_block, has_part}
 use Rattle.vfm_plain.specs.IssueRules.{first_number, is_next_to_issue, is_request_allowed}
 use Rattle.vfm_plain.specs.Looks.{unissued_of, look_of, next_arc, is_ready}
 use Rattle.vfm_laws.proofs.Rising.{by_bool}
-use Rattle.vfm_parts.specs.Parts.{Dev, Parts, dev_at, parts_in, listed}
-use Rattle.vfm_parts.specs.PartsOf.{dev_of, lead_of, world_of, Tells}
+use Rattle.vfm_parts.specs.Parts.{dev_at, parts_in, listed}
+use Rattle.vfm_parts.specs.PartsOf.{dev_of, lead_of, world_of}
 use Rattle.vfm_parts.specs.ArcStep.{is_quiet_for_arc_in}
 use Rattle.vfm_parts.specs.BlockStep.{next_block_in}
-use Rattle.vfm_parts.proofs.Sets.{has_below, size_is, least_is}
+use Rattle.vfm_parts.proofs.Sets.{has_below, size_is}
 use Rattle.vfm_parts.proofs.Words.{freely, copy_is, part_is}
 use Rattle.vfm_parts.specs.PartWords.{is_no_pass_open_in}
 use Rattle.vfm_parts.proofs.Listed.{listed_at}
@@ -69,10 +68,7 @@ part_told D past = ap (due_of_pass (is_aborted past || is_resumed past)) (part_i
 
 -- the least number that passes is one of those that were asked
 least_inside : (i n : ℕ) (test : ℕ → Bool) (d : ℕ) → least_from i n test ≡ Some d → d < i + n
-least_inside i zero test d found = absurd (none_some d found)
-  where
-    none_some : (x : ℕ) → None ≡ Some x → ⊥
-    none_some x same = cc
+least_inside i zero test d found = absurd (none-some d found)
 least_inside i (suc n) test d found =
     by_bool (test i) (λ b. (if b then Some i else least_from (i + 1) n test) ≡ Some d → d < i + suc n)
     (λ passes e. let same : i ≡ d = cc in omega arith)
@@ -90,12 +86,8 @@ block_told D past =
     → block_of_part (λ d. next_block_in (dev_at (world_of D past) d)) (due_of_pass b (next_part D past))
     ≡ block_of_part (λ d. next_block D d past) (due_of_pass b (next_part D past)))
     (λ over e. refl)
-    (λ moving e. at (next_part D past) refl (neither (is_aborted past) (is_resumed past) e)) refl
+    (λ moving e. at (next_part D past) refl (or_parts (is_aborted past) (is_resumed past) e).1) refl
   where
-    neither : (a b : Bool) → (a || b) ≡ false → b ≡ false
-    neither true b e = absurd (true≢false e)
-    neither false b e = e
-
     at : (due : Option ℕ) → next_part D past ≡ due → is_resumed past ≡ false
         → block_of_part (λ d. next_block_in (dev_at (world_of D past) d)) due ≡ block_of_part (λ d. next_block D d past) due
     at None is live = refl

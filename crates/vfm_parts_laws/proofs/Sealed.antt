@@ -1,4 +1,5 @@
 -- Sealed parts that agree in what is still asked allow the same entries, and stay so.
+use Rattle.std.proofs.Math.Bool.{and-false}
 use Rattle.std.proofs.Common.{◌≡◌, ℕ, ◌<◌, ◌==◌, ◌&&◌, ◌||◌, not, Bool, true, false, nat_lt, is_none, if◌then◌else◌, List, [], ◌∷◌, Option, Some, None, refl, ap, ap₂, sym, ◌∙◌, ltb-true}
 use Rattle.std.proofs.lemmas.Bool.{cond-true, and_parts, false≢true, true≢false}
 use Rattle.vfm_types.specs.declared.desc.Desc.{Desc}
@@ -35,10 +36,6 @@ use Rattle.vfm_parts.proofs.Listed.{all_below_same}
 use Rattle.vfm_parts_laws.specs.Staged.{IsSealed, AgreesInRest, is_pass}
 
 -- ---- what a sealed machine answers
-
-and_none : (b : Bool) → (b && false) ≡ false
-and_none true = refl
-and_none false = refl
 
 -- the first test, and a second one that matters only where the first holds
 behind : (first one other : Bool) (rule next : Rule) (rest : List Condition) → (first ≡ true → one ≡ other)
@@ -78,7 +75,7 @@ module _ (D : Desc) (parts : Parts) (sealed : IsSealed D parts) where
       ∷ (free || nat_lt (parts.dev d).issues D.begin, Start) ∷ [])) (sealed.free d inside)
 
   past_joint : (is_on_in lead && not lead.joint) ≡ false
-  past_joint = ap (λ (j : Bool). is_on_in lead && not j) sealed.joint ∙ and_none (is_on_in lead)
+  past_joint = ap (λ (j : Bool). is_on_in lead && not j) sealed.joint ∙ and-false (is_on_in lead)
 
   pub hold_sealed : (d : ℕ) (to : MigState) → fault_in D parts (Hold d to) ≡ Some Order
   hold_sealed d to =
@@ -102,7 +99,7 @@ module _ (D : Desc) (parts : Parts) (sealed : IsSealed D parts) where
       ((is_quiet_for_arc_in D d to parts.dev, Quiet) ∷ []) (λ done. not_over lead.aborted lead.resumed _ _ _ done)
 
   no_more : (b : Bool) → (b && (if lead.joint then not lead.last else not (is_decided_in D lead))) ≡ false
-  no_more b = ap₂ (λ (j l : Bool). b && (if j then not l else not (is_decided_in D lead))) sealed.joint sealed.last ∙ and_none b
+  no_more b = ap₂ (λ (j l : Bool). b && (if j then not l else not (is_decided_in D lead))) sealed.joint sealed.last ∙ and-false b
 
   pub report_sealed : (d : ℕ) → fault_in D parts (Report d) ≡ first_failed ((is_on_in lead, Order) ∷ (false, Pages) ∷ [])
   report_sealed d =
@@ -127,7 +124,7 @@ module _ (D : Desc) (parts : Parts) (sealed : IsSealed D parts) where
   not_due : (d : ℕ) (b : Bool) → (is_none (next_copy_in lead) && is_exactly d (next_part_in D lead) && b) ≡ false
   not_due d b =
       ap (λ (x : Bool). is_none (next_copy_in lead) && x && b) (not_exactly d (next_part_in D lead) no_part)
-      ∙ ap (λ (x : Bool). x && b) (and_none (is_none (next_copy_in lead)))
+      ∙ ap (λ (x : Bool). x && b) (and-false (is_none (next_copy_in lead)))
 
   pub block_sealed : (d b : ℕ) → fault_in D parts (Block d b) ≡ first_failed ((is_on_in lead, Order) ∷ (false, Blocks) ∷ [])
   block_sealed d b =

@@ -1,4 +1,5 @@
 -- What an allowed entry makes of sealed parts that agree in what is still asked.
+use Rattle.std.proofs.Math.Bool.{or-true}
 use Rattle.std.proofs.Common.{◌≡◌, ℕ, ◌<◌, ◌≤◌, ◌==◌, ◌||◌, Bool, true, false, is_none, if◌then◌else◌, List, [], ◌∷◌, None, refl, ap, ap₂, sym, ◌∙◌, arith, eqb-true, ⊎_elim}
 use Rattle.std.proofs.lemmas.Bool.{cases_lt, false≢true}
 use Rattle.std.proofs.lemmas.List.{get_or_past}
@@ -126,10 +127,6 @@ module _ (D : Desc) (p q : Parts) (agrees : AgreesInRest p q) where
 
 -- ---- sealed parts stay sealed
 
-or_true : (b : Bool) → (b || true) ≡ true
-or_true true = refl
-or_true false = refl
-
 free_one : (parts : Parts) (d : ℕ) (change : Dev → Dev) → ((x : Dev) → ((change x).logging || (change x).released) ≡ (x.logging || x.released))
     → (k : ℕ) → ((parts.dev k).logging || (parts.dev k).released) ≡ true
     → ((with_dev d (change (parts.dev d)) parts.dev k).logging || (with_dev d (change (parts.dev d)) parts.dev k).released) ≡ true
@@ -167,7 +164,7 @@ after_sealed D parts sealed (Complete d n) going =
 after_sealed D parts sealed (Arc d to) going =
     record { begun = sealed.begun; joint = sealed.joint; last = sealed.last; closed = sealed.closed; free = λ k h. free_one parts d (moved_dev to) (λ x. refl) k (sealed.free k h) }
 after_sealed D parts sealed Abort going =
-    record { begun = sealed.begun; joint = sealed.joint; last = sealed.last; closed = sealed.closed; free = λ k h. or_true (parts.dev k).logging }
+    record { begun = sealed.begun; joint = sealed.joint; last = sealed.last; closed = sealed.closed; free = λ k h. or-true (parts.dev k).logging }
 after_sealed D parts sealed Resume going =
     record { begun = sealed.begun; joint = sealed.joint; last = sealed.last; closed = sealed.closed; free = λ k h. refl }
 after_sealed D parts sealed entry going = absurd (going refl)

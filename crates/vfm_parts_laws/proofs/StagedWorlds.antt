@@ -1,5 +1,5 @@
 -- The world of a staged core beside that of the joined list.
-use Rattle.std.proofs.Common.{◌≡◌, ℕ, ◌<◌, ◌≤◌, ◌&&◌, ◌||◌, not, Bool, true, false, is_none, nat_lt, List, [], ◌∷◌, slice_index_or, Option, Some, None, IsTrue, IsFalse, refl, ap, sym, ◌∙◌, subst, arith, ⊎_elim}
+use Rattle.std.proofs.Common.{◌≡◌, ℕ, ◌<◌, ◌≤◌, ◌&&◌, ◌||◌, not, Bool, true, false, is_none, List, [], ◌∷◌, slice_index_or, Option, Some, None, IsTrue, IsFalse, refl, ap, sym, ◌∙◌, subst, arith, ⊎_elim}
 use Rattle.std.proofs.lemmas.Bool.{cases_lt, false≢true, and_parts}
 use Rattle.std.proofs.lemmas.List.{get_or_past}
 use Rattle.vfm_types.specs.declared.desc.Desc.{Desc}
@@ -8,7 +8,6 @@ use Rattle.vfm_types.specs.declared.state.MigState.TheVariants.{StopCopy}
 use Rattle.vfm_types.specs.declared.entry.Entry.{Entry}
 use Rattle.vfm_types.specs.declared.entry.Entry.TheVariants.{Begin, Joint}
 use Rattle.vfm_types.specs.declared.entry.Rule.TheVariants.{Order, Joint as Standing}
-use Rattle.vfm_base.proofs.LeastPages.{least_below_none}
 use Rattle.vfm_types.specs.Desc.{device_count, shape_at}
 use Rattle.vfm_types.specs.Machine.{Machine, device_of}
 use Rattle.vfm_types.specs.Deliveries.{machine_of}
@@ -26,14 +25,13 @@ use Rattle.vfm_laws.proofs.Conditions.{met}
 use Rattle.vfm_laws.proofs.KeptStates.{keeps_states}
 use Rattle.vfm_parts.specs.Parts.{Dev, World, parts_in, no_dev, listed}
 use Rattle.vfm_parts.specs.PartsOf.{dev_of, world_of}
-use Rattle.vfm_parts.specs.PartWords.{is_no_pass_open_in}
 use Rattle.vfm_parts.specs.Steps.{fault_on, after_on}
 use Rattle.vfm_parts.proofs.Listed.{listed_at, length-listed}
 use Rattle.vfm_parts.proofs.Words.{closed_is}
-use Rattle.vfm_parts.proofs.Allowed.{on_begun}
+use Rattle.vfm_parts.proofs.Allowed.{none_is, on_begun}
 use Rattle.vfm_parts.proofs.Faults.{fault_told}
 use Rattle.vfm_parts.proofs.Worlds.{world_tells, world_after}
-use Rattle.vfm_parts_laws.specs.Staged.{staged_dev, staged_lead, staged_world, IsSealed, still_asked, AgreesInRest, IsStagedAfter, is_pass}
+use Rattle.vfm_parts_laws.specs.Staged.{staged_dev, staged_world, IsSealed, still_asked, AgreesInRest, IsStagedAfter, is_pass}
 use Rattle.vfm_parts_laws.proofs.LookFacts.{bare_ended}
 use Rattle.vfm_parts_laws.proofs.Sealed.{fault_same, allowed_same}
 use Rattle.vfm_parts_laws.proofs.SealedSteps.{is_refused, refused, after_agrees, after_sealed, world_agrees, world_sealed}
@@ -51,10 +49,6 @@ pub staged_rule : (D : Desc) (past : List Entry) (w : World) (entry : Entry) →
 staged_rule D past w entry staged named other =
     fault_same D (parts_in w) (parts_in (world_of D past)) staged.own staged.listed staged.agrees entry named other
     ∙ fault_told D past (parts_in (world_of D past)) (world_tells D past) entry named
-
-none_is : {X : Type 0} (x : Option X) → is_none x ≡ true → x ≡ None
-none_is None e = refl
-none_is (Some x) e = absurd (false≢true e)
 
 pub staged_legal : (D : Desc) (past : List Entry) (w : World) (entry : Entry) → IsLegal D past → IsStagedAfter D past w → IsTrue (is_entry_of D entry)
     → fault_on D w entry ≡ None → IsLegal D (entry ∷ past)

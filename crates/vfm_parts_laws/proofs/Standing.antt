@@ -1,9 +1,12 @@
 -- Each allowed entry keeps how the devices stand: none in ERROR, and until the move is over held only for its next state.
-use Rattle.std.proofs.Common.{◌≡◌, ℕ, ◌+◌, ◌<◌, ◌==◌, ◌&&◌, ◌||◌, not, Bool, true, false, is_none, nat_lt, if◌then◌else◌, List, [], ◌∷◌, Option, Some, None, refl, ap, ap₂, sym, ◌∙◌, subst, arith, eqb-true, ltb-true}
+use Rattle.vfm_parts.proofs.Allowed.{none_is}
+use Rattle.std.proofs.lemmas.Option.{none-some}
+use Rattle.std.proofs.Math.Bool.{or-true}
+use Rattle.std.proofs.Common.{◌≡◌, ℕ, ◌+◌, ◌<◌, ◌==◌, ◌&&◌, ◌||◌, not, Bool, true, false, is_none, nat_lt, if◌then◌else◌, [], ◌∷◌, Option, Some, None, refl, ap, sym, ◌∙◌, ltb-true}
 use Rattle.std.proofs.lemmas.Bool.{and_parts, not-true, false≢true, true≢false}
 use Rattle.vfm_types.specs.declared.desc.Desc.{Desc}
 use Rattle.vfm_types.specs.declared.state.MigState.{MigState}
-use Rattle.vfm_types.specs.declared.state.MigState.TheVariants.{Error, Stop, Running, StopCopy, Resuming, PreCopy}
+use Rattle.vfm_types.specs.declared.state.MigState.TheVariants.{Error, Stop, Running, StopCopy, PreCopy}
 use Rattle.vfm_types.specs.declared.entry.Entry.{Entry}
 use Rattle.vfm_types.specs.declared.entry.Entry.TheVariants.{Issue, Deliver, Complete, Hold, Arc, Fail, Report, Pass, Copy, Block, Dry, Begin, Joint, Abort, Resume}
 use Rattle.vfm_types.specs.declared.entry.Rule.TheVariants.{Order, Decide, Path, Quiet}
@@ -40,13 +43,11 @@ hold_allowed D parts d to fine =
     let order = met (may_be_held_in parts.lead (parts.dev d)) Order ((is_decided_in D parts.lead, Decide) ∷ (path, Path) ∷ (is_quiet_for_hold_in D to parts.dev, Quiet) ∷ []) fine in
     let decided = met (is_decided_in D parts.lead) Decide ((path, Path) ∷ (is_quiet_for_hold_in D to parts.dev, Quiet) ∷ []) order.1 in
     let right = met path Path ((is_quiet_for_hold_in D to parts.dev, Quiet) ∷ []) decided.1 in
-    let parts_of = and_parts (not (is_stopped (parts.dev d).state)) (is_next_towards_in D d StopCopy to (parts.dev d)) right.0 in
-    (none_is (parts.dev d).hold (and_parts _ (is_none (parts.dev d).hold) order.0).1, not-true (is_stopped (parts.dev d).state) parts_of.0,
-    same_is to (next_towards (parts.dev d).state StopCopy (shape_at D d).flags) parts_of.1)
-  where
-    none_is : (hold : Option MigState) → is_none hold ≡ true → hold ≡ None
-    none_is None e = refl
-    none_is (Some x) e = absurd (false≢true e)
+    let parts_of = and_parts (not (is_stopped (parts.dev d).state)) (is_next_towards_in D d StopCopy to (parts.dev d)) right.0 in (
+      none_is (parts.dev d).hold (and_parts _ (is_none (parts.dev d).hold) order.0).1,
+      not-true (is_stopped (parts.dev d).state) parts_of.0,
+      same_is to (next_towards (parts.dev d).state StopCopy (shape_at D d).flags) parts_of.1,
+    )
 
 -- The arcs of a device: home once the move is over; before that to PRE_COPY, into the state that it is held for, or from
 -- STOP to STOP_COPY.
@@ -94,9 +95,6 @@ arc_allowed D parts d to fine =
     refl right.0
 
 -- ---- devices keep standing so
-
-some_none : {X : Type 0} (x : X) → None ≡ Some x → ⊥
-some_none x same = cc
 
 way_known : (D : Desc) (lead : Lead) (dev : Dev) (d : ℕ) (to : MigState) → DevStands lead dev → Way D lead dev d to → same_state to Error ≡ false
 way_known D lead dev d to stands (home over away is) =
@@ -150,10 +148,6 @@ deliver_stands D parts d n stands inside k h =
     target : Dev
     target = struck_dev D k (job_in D d n (parts.dev d)) (parts.dev d).plain.buf (parts.dev k)
 
-or_true : (b : Bool) → (b || true) ≡ true
-or_true true = refl
-or_true false = refl
-
 pub step_stands : (D : Desc) (parts : Parts) (entry : Entry) → PartsStand D parts → is_entry_of D entry ≡ true → fault_in D parts entry ≡ None
     → PartsStand D (parts_after D parts entry)
 step_stands D parts (Hold d to) stands named fine =
@@ -176,7 +170,7 @@ step_stands D parts (Hold d to) stands named fine =
 step_stands D parts (Arc d to) stands named fine =
     let own = stands d (ltb-true d (device_count D) named) in
     one_stands D parts parts.lead d _
-    (record { known = way_known D parts.lead (parts.dev d) d to own (arc_allowed D parts d to fine); held = λ moving s is. absurd (some_none s is) }) stands
+    (record { known = way_known D parts.lead (parts.dev d) d to own (arc_allowed D parts d to fine); held = λ moving s is. absurd (none-some s is) }) stands
 step_stands D parts (Issue d n) stands named fine =
     one_as D parts parts.lead d (issued_dev n) stands (ltb-true d (device_count D) named) (λ moving. moving) (λ x. refl) (λ x. refl)
 step_stands D parts (Deliver d n) stands named fine = deliver_stands D parts d n stands (ltb-true d (device_count D) named)
@@ -198,4 +192,4 @@ step_stands D parts Begin stands named fine =
 step_stands D parts Abort stands named fine =
     λ k h. record { known = (stands k h).known; held = λ moving to is. absurd (true≢false moving) }
 step_stands D parts Resume stands named fine =
-    λ k h. record { known = refl; held = λ moving to is. absurd (true≢false (sym (or_true parts.lead.aborted) ∙ moving)) }
+    λ k h. record { known = refl; held = λ moving to is. absurd (true≢false (sym (or-true parts.lead.aborted) ∙ moving)) }
