@@ -9,10 +9,10 @@ pub returns-clause-count : goal.returns-clause-count
 returns-clause-count c = λ D past. refl
 
 pub returns-clause-few : goal.returns-clause-few
-returns-clause-few c = λ D valid past. few_devices D valid
+returns-clause-few c = λ D past valid. few_devices D valid
 
 pub returns-clause-passes : goal.returns-clause-passes
-returns-clause-passes c = λ D valid past legal.
+returns-clause-passes c = λ D past valid legal.
     let passes : pass_count past ≤ D.rounds + 1 = passes_in_all D past legal in
     let rounds : D.rounds ≤ 8 = valid.in_range.rounds in
     omega arith
