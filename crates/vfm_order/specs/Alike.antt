@@ -3,7 +3,8 @@ use Rattle.std.specs.Prelude.{◌≡◌, ℕ, ◌<◌, length}
 use Rattle.vfm_quiet.specs.declared.move_look.MoveLook.{MoveLook}
 use Rattle.vfm_quiet.specs.Seen.{seen, sees_ready, sees_reported}
 
--- One look shows what the other shows. The places of devices that aren't there may differ, and of the set its size counts.
+-- One look shows what the other shows. The places of devices that aren't there may differ, and of the set only its
+-- size counts.
 pub record IsAlike (look other : MoveLook) : Type 0 where
   pub begun : look.begun ≡ other.begun
   pub joint : look.joint ≡ other.joint

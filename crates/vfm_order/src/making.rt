@@ -12,19 +12,19 @@ ghost use Rattle.vfm_quiet.specs.Order.{next_want};
 ghost use Rattle.vfm_order.specs.LookAfter.{look_after};
 ghost use Rattle.vfm_order.specs.Coordinator.{is_coordinators, is_abort_due};
 
-/// What the order wants after a legal list is an entry of the coordinator that names what the machine has and meets its
-/// conditions.
+/// What the order wants after a legal list is an entry of the coordinator, which names what the machine has and meets
+/// its conditions.
 pub fn wants_may_be_made()
-    ensures own { (D : Desc) → IsValid D → (past : List Entry) → IsLegal D past → (abort_after : ℕ) (entry : Entry)
+    ensures own { (D : Desc) (past : List Entry) (abort_after : ℕ) (entry : Entry) → IsValid D → IsLegal D past
         → next_want D (look_after D past) abort_after ≡ Do entry → IsTrue (is_coordinators entry) }
-    ensures in_range { (D : Desc) → IsValid D → (past : List Entry) → IsLegal D past → (abort_after : ℕ) (entry : Entry)
+    ensures in_range { (D : Desc) (past : List Entry) (abort_after : ℕ) (entry : Entry) → IsValid D → IsLegal D past
         → next_want D (look_after D past) abort_after ≡ Do entry → IsTrue (is_entry_of D entry) }
-    ensures meets { (D : Desc) → IsValid D → (past : List Entry) → IsLegal D past → (abort_after : ℕ) (entry : Entry)
+    ensures meets { (D : Desc) (past : List Entry) (abort_after : ℕ) (entry : Entry) → IsValid D → IsLegal D past
         → next_want D (look_after D past) abort_after ≡ Do entry → fault_of D past entry ≡ None }
 {}
 
 /// The order wants Abort exactly where it is due.
 pub fn aborts_where_due()
-    ensures { (D : Desc) → IsValid D → (past : List Entry) → IsLegal D past → (abort_after : ℕ)
+    ensures { (D : Desc) (past : List Entry) (abort_after : ℕ) → IsValid D → IsLegal D past
         → (next_want D (look_after D past) abort_after ≡ Do Abort) ↔ IsTrue (is_abort_due D past abort_after) }
 {}

@@ -10,15 +10,16 @@ ghost use Rattle.vfm_quiet.specs.Order.{next_want};
 ghost use Rattle.vfm_order.specs.LookAfter.{look_after};
 ghost use Rattle.vfm_order.specs.Coordinator.{IsStuck, is_abort_due, is_done};
 
-/// The order waits exactly where no entry of the coordinator but Abort may be made, Abort isn't due, and the move isn't
-/// done.
+/// The order waits exactly where no entry of the coordinator but Abort may be made, Abort isn't due, and the move
+/// isn't done.
 pub fn waits_where_stuck()
-    ensures { (D : Desc) → IsValid D → (past : List Entry) → IsLegal D past → (abort_after : ℕ)
+    ensures { (D : Desc) (past : List Entry) (abort_after : ℕ) → IsValid D → IsLegal D past
         → (next_want D (look_after D past) abort_after ≡ Wait) ↔ IsStuck D past abort_after }
 {}
 
 /// The order has nothing left to be done exactly where the move is done and Abort isn't due.
 pub fn done_where_done()
-    ensures { (D : Desc) → IsValid D → (past : List Entry) → IsLegal D past → (abort_after : ℕ)
-        → (next_want D (look_after D past) abort_after ≡ Done) ↔ (IsTrue (is_done D past) × IsFalse (is_abort_due D past abort_after)) }
+    ensures { (D : Desc) (past : List Entry) (abort_after : ℕ) → IsValid D → IsLegal D past
+        → (next_want D (look_after D past) abort_after ≡ Done)
+        ↔ (IsTrue (is_done D past) × IsFalse (is_abort_due D past abort_after)) }
 {}

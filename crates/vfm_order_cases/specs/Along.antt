@@ -1,5 +1,5 @@
 -- What the order wants along a journal.
-use Rattle.std.specs.Prelude.{ℕ, List, [], ◌∷◌}
+use Rattle.std.specs.Prelude.{◌≡◌, ℕ, List, [], ◌∷◌, reverse, take, drop}
 use Rattle.vfm_types.specs.declared.desc.Desc.{Desc}
 use Rattle.vfm_types.specs.declared.entry.Entry.{Entry}
 use Rattle.vfm_types.specs.declared.entry.Entry.TheVariants.{Issue, Deliver, Complete, Resume}
@@ -27,3 +27,12 @@ made_along (Deliver d n ∷ entries) last = made_along entries last
 made_along (Complete d n ∷ entries) last = made_along entries last
 made_along (Resume ∷ entries) last = Done ∷ made_along entries last
 made_along (entry ∷ entries) last = Do entry ∷ made_along entries last
+
+-- From this place on, whatever the coordinator makes in a journal is what the order wants there, and all is done after it.
+abbrev pub IsOrderedFrom : Desc → ℕ → List Entry → Type 0
+IsOrderedFrom D place journal =
+    wants_along D 0 (reverse (take place journal)) (drop place journal) ≡ made_along (drop place journal) Done
+
+-- the whole journal is so
+abbrev pub IsOrdered : Desc → List Entry → Type 0
+IsOrdered D journal = IsOrderedFrom D 0 journal

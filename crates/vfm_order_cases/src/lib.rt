@@ -17,4 +17,7 @@ pub use schedules::{
     duo_failing_is_ordered, duo_runs_are_ordered, mono_runs_are_ordered, solo_runs_are_ordered,
     three_failing_is_ordered, three_runs_are_ordered,
 };
-pub use several::{one_stopped_goes_home_first, pre_copy_is_ordered, three_devices_are_ordered};
+pub use several::{
+    barred_request_is_waited_for, least_device_goes_on, one_stopped_goes_home_first,
+    pre_copy_is_ordered, three_devices_are_ordered,
+};

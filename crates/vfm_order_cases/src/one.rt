@@ -4,11 +4,11 @@ ghost use Rattle.std.specs.Prelude.{◌≡◌, ◌∷◌, []};
 ghost use Rattle.vfm_types.specs.declared.entry.Entry.TheVariants.{Block};
 ghost use Rattle.vfm_quiet.specs.declared.want.Want.TheVariants.{Do, Done, Wait};
 ghost use Rattle.vfm_cases.specs.One.{one, one_source, one_joined, one_aborted, one_early, one_marked, one_late, one_failing, one_fails_first, one_fails_second};
-ghost use Rattle.vfm_order_cases.specs.Along.{wants_along, made_along};
+ghost use Rattle.vfm_order_cases.specs.Along.{wants_along, made_along, IsOrdered};
 
 /// Moved without a pass before it stops, and home at the destination; before its request is done, the move waits.
 pub fn one_device_is_ordered()
-    ensures joined { wants_along one 0 [] one_joined ≡ made_along one_joined Done }
+    ensures joined { IsOrdered one one_joined }
     ensures waits { wants_along one 0 [] [] ≡ Wait ∷ [] }
 {}
 
@@ -20,13 +20,13 @@ pub fn abort_is_ordered()
 
 /// With one pass before it stops, and with two.
 pub fn passes_are_ordered()
-    ensures marked { wants_along (one_early 1) 0 [] one_marked ≡ made_along one_marked Done }
+    ensures marked { IsOrdered (one_early 1) one_marked }
     ensures late { wants_along (one_early 2) 0 [] one_late ≡ made_along one_late (Do (Block 0 0)) }
 {}
 
 /// With the first arc failing, or the second one; a third one that would fail is never made on the way out.
 pub fn failing_arcs_are_ordered()
-    ensures first { wants_along (one_failing 1) 0 [] one_fails_first ≡ made_along one_fails_first Done }
-    ensures second { wants_along (one_failing 2) 0 [] one_fails_second ≡ made_along one_fails_second Done }
-    ensures third { wants_along (one_failing 3) 0 [] one_joined ≡ made_along one_joined Done }
+    ensures first { IsOrdered (one_failing 1) one_fails_first }
+    ensures second { IsOrdered (one_failing 2) one_fails_second }
+    ensures third { IsOrdered (one_failing 3) one_joined }
 {}

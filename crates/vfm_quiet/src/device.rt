@@ -78,11 +78,10 @@ pub(crate) fn arc_or_fail(desc: &Desc, look: &MoveLook, d: u8, to: MigState) -> 
     ensures { result ≡ arc_or_fail desc.now look.now d to }
 {
     let fails = desc.devices.at(u32::from(d)).fails;
-    let d_id = DeviceId(d);
     if fails > 0 && look.device(d).arcs == fails - 1 {
-        Entry::Fail { d: d_id, to }
+        Entry::Fail { d: DeviceId(d), to }
     } else {
-        Entry::Arc { d: d_id, to }
+        Entry::Arc { d: DeviceId(d), to }
     }
 }
 

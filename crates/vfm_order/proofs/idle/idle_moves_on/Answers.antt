@@ -3,10 +3,10 @@ use Rattle.vfm_order.proofs.Motion.{idle_moves, over_moves, staged_moves}
 use Rattle.vfm_order.proofs.idle.idle_moves_on.Goals as goal
 
 pub returns-clause-idle : goal.returns-clause-idle
-returns-clause-idle c = λ D valid past legal n idle. idle_moves D past n valid legal idle
+returns-clause-idle c = λ D past n valid legal idle. idle_moves D past n valid legal idle
 
 pub returns-clause-home : goal.returns-clause-home
-returns-clause-home c = λ D valid past legal n over. over_moves D past n valid legal over
+returns-clause-home c = λ D past n valid legal over. over_moves D past n valid legal over
 
 pub returns-clause-staged : goal.returns-clause-staged
-returns-clause-staged c = λ D valid before mine unbroken legal n. staged_moves D valid before mine unbroken legal n
+returns-clause-staged c = λ D before mine n staged. staged_moves D staged.valid before mine staged.whole staged.legal n

@@ -3,7 +3,7 @@ use Rattle.vfm_order.proofs.StagedLooks.{staged_held, staged_home}
 use Rattle.vfm_order.proofs.staged.staged_order_is_home.Goals as goal
 
 pub returns-clause-before : goal.returns-clause-before
-returns-clause-before c = λ D valid before mine unbroken legal n open_. staged_held D before mine n unbroken legal open_
+returns-clause-before c = λ D before mine n staged open_. staged_held D before mine n staged.whole staged.legal open_
 
 pub returns-clause-after : goal.returns-clause-after
-returns-clause-after c = λ D valid before mine n over. staged_home D valid before mine n over
+returns-clause-after c = λ D before mine n valid over. staged_home D valid before mine n over

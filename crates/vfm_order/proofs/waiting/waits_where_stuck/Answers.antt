@@ -3,4 +3,4 @@ use Rattle.vfm_order.proofs.Wants.{stuck_of_wait, wait_of_stuck}
 use Rattle.vfm_order.proofs.waiting.waits_where_stuck.Goals as goal
 
 pub returns : goal.returns
-returns c = λ D valid past legal n. (stuck_of_wait D valid past legal n, wait_of_stuck D valid past legal n)
+returns c = λ D past n valid legal. (stuck_of_wait D valid past legal n, wait_of_stuck D valid past legal n)
