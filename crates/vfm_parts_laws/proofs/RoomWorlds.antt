@@ -1,6 +1,6 @@
 -- How many entries are left to a world: at first, staged, and after each step.
 use Rattle.std.proofs.lemmas.Option.{none-some}
-use Rattle.std.proofs.Common.{◌≡◌, ℕ, ◌+◌, ◌*◌, ◌<◌, ◌≤◌, Bool, true, false, List, [], ◌∷◌, length, Some, None, IsTrue, refl, ap, sym, ◌∙◌, subst, arith, zero-mul}
+use Rattle.std.proofs.Common.{◌≡◌, ℕ, ◌+◌, ◌*◌, ◌<◌, ◌≤◌, Bool, true, false, List, [], ◌∷◌, length, None, IsTrue, refl, ap, sym, ◌∙◌, subst, arith, zero-mul}
 use Rattle.vfm_types.specs.declared.desc.Desc.{Desc}
 use Rattle.vfm_types.specs.declared.entry.Entry.{Entry}
 use Rattle.vfm_types.specs.Desc.{device_count, shape_at, no_shape, all_budgets}

@@ -56,6 +56,7 @@ count_without zero test p high = refl
 count_without (suc n) test p high =
     ap₂ (λ (a : ℕ) (b : Bool). a + one_if (test n && not b)) (count_without n test p (omega arith)) (ne_eqb p n (λ same. omega arith))
     ∙ ap (λ (b : Bool). count_below n test + one_if b) (and-true (test n))
+
 -- one member less
 pub count_less : (n : ℕ) (test : ℕ → Bool) (p : ℕ) → p < n → test p ≡ true
     → count_below n (λ q. test q && not (p == q)) + 1 ≡ count_below n test
