@@ -8,7 +8,7 @@ ghost use Rattle.vfm_parts.specs.Parts.{parts_in};
 ghost use Rattle.vfm_cells.specs.Cells.{cell_at};
 ghost use Rattle.vfm_cells.specs.Touched.{touched};
 ghost use Rattle.vfm_cells.specs.CellSteps.{step_of};
-ghost use Rattle.vfm_parts_cases.specs.Forgotten.{parts_after_journal, pass_begun, block_read};
+ghost use Rattle.vfm_parts_cases.specs.ForgottenFields.{parts_after_journal, pass_begun, block_read};
 
 /// A delivery between two devices touches their two cells, a report the coordinator's and the device's, a copy the
 /// coordinator's and the page's, and Begin the coordinator's and every device's.

@@ -6,7 +6,7 @@ ghost use Rattle.vfm_types.specs.declared.entry.Rule.TheVariants.{Pages, Decide}
 ghost use Rattle.vfm_types.specs.Deliveries.{machine_of};
 ghost use Rattle.vfm_plain.specs.Rules.{fault_of};
 ghost use Rattle.vfm_parts.specs.Steps.{fault_on};
-ghost use Rattle.vfm_parts_laws.specs.Staged.{staged_world};
+ghost use Rattle.vfm_parts_laws.specs.StagedParts.{staged_world};
 ghost use Rattle.vfm_cases.specs.One.{one, one_source};
 
 /// A Pass breaks another rule on staged parts, which have counted none, than over the joined list; Resume is allowed by

@@ -5,7 +5,7 @@ use Rattle.std.proofs.lemmas.Bool.{cases_lt, ne_eqb, eq-eqb}
 use Rattle.std.specs.List.{sum_by}
 use Rattle.std.proofs.lemmas.List.Sums.{sum_by-cons}
 use Rattle.vfm_base.specs.Least.{count_below}
-use Rattle.vfm_parts_laws.specs.Room.{sum_below}
+use Rattle.vfm_parts_laws.specs.EntriesLeft.{sum_below}
 
 pub sum_le : (n : ℕ) (f g : ℕ → ℕ) → ((k : ℕ) → k < n → g k ≤ f k) → sum_below n g ≤ sum_below n f
 sum_le zero f g h = omega arith
