@@ -1,4 +1,5 @@
 pub mod Numbers
 pub mod Local
 pub mod Whole
+pub mod Fitting
 pub mod WholeRuns

@@ -1,4 +1,5 @@
 pub mod Cells
+pub mod CellFits
 pub mod Touched
 pub mod CellSteps
 pub mod WholeRun

@@ -1,9 +1,9 @@
 -- What an entry that breaks no rule says of the list before it, where the laws on effects need it.
-use Rattle.std.proofs.Common.{◌≡◌, ℕ, ◌+◌, ◌<◌, ◌==◌, Bool, true, false, not, ◌&&◌, ◌||◌, if◌then◌else◌, nat_le, nat_lt, is_none, List, [], ◌∷◌, Option, Some, None, IsTrue, refl, ap, sym, ◌∙◌, arith, eqb-true}
+use Rattle.std.proofs.Common.{◌≡◌, ℕ, ◌+◌, ◌<◌, ◌==◌, true, false, not, ◌&&◌, ◌||◌, if◌then◌else◌, nat_le, nat_lt, is_none, List, [], ◌∷◌, Option, Some, None, refl, sym, ◌∙◌, eqb-true}
 use Rattle.std.proofs.lemmas.Bool.{and_parts, not-true, false≢true}
 use Rattle.vfm_types.specs.declared.desc.Desc.{Desc}
 use Rattle.vfm_types.specs.declared.entry.Entry.{Entry}
-use Rattle.vfm_types.specs.declared.entry.Entry.TheVariants.{Report, Pass, Copy, Block, Dry, Begin, Joint, Abort, Resume}
+use Rattle.vfm_types.specs.declared.entry.Entry.TheVariants.{Report, Pass, Block, Begin, Resume}
 use Rattle.vfm_types.specs.declared.entry.Rule.TheVariants.{Order, Pages, Decide, Blocks, Start, Joint as Standing}
 use Rattle.vfm_base.specs.Least.{all_below}
 use Rattle.vfm_types.specs.Desc.{device_count}
@@ -15,9 +15,7 @@ use Rattle.vfm_plain.specs.Legal.{IsLegal}
 use Rattle.vfm_plain.specs.Rules.{fault_of}
 use Rattle.vfm_plain.specs.ReportRules.{may_report_log}
 use Rattle.vfm_plain.specs.PassRules.{is_next_pass, is_pass_wanted}
-use Rattle.vfm_plain.specs.CopyRules.{is_copy_due}
 use Rattle.vfm_plain.specs.BlockRules.{is_block_due}
-use Rattle.vfm_plain.specs.DryRules.{is_dry_due}
 use Rattle.vfm_plain.specs.BeginRules.{may_begin_move}
 use Rattle.vfm_plain.specs.ResumeRules.{is_state_copied}
 use Rattle.vfm_laws.proofs.Below.{all_below_at}

@@ -1,6 +1,6 @@
 -- Each entry changes the parts as it changes the facts, kind by kind.
-use Rattle.std.proofs.Common.{◌≡◌, ℕ, ◌+◌, ◌-◌, ◌<◌, ◌≤◌, ◌==◌, Bool, true, false, not, ◌&&◌, ◌||◌, if◌then◌else◌, nat_le, nat_lt, List, [], ◌∷◌, length, slice_set, None, Some, IsTrue, refl, ap, ap₂, sym, ◌∙◌, subst, arith, eqb-true, ltb-true}
-use Rattle.std.proofs.lemmas.Bool.{eq-eqb, ne_eqb, cond-true, cond-false, eqb-false, and_parts, lt-leb}
+use Rattle.std.proofs.Common.{◌≡◌, ℕ, ◌+◌, ◌-◌, ◌<◌, ◌≤◌, ◌==◌, Bool, true, false, not, ◌&&◌, ◌||◌, if◌then◌else◌, nat_le, nat_lt, List, [], ◌∷◌, slice_set, None, refl, ap, ap₂, sym, ◌∙◌, arith, eqb-true, ltb-true}
+use Rattle.std.proofs.lemmas.Bool.{eq-eqb, eqb-false, and_parts, lt-leb}
 use Rattle.vfm_types.specs.declared.desc.Desc.{Desc}
 use Rattle.vfm_types.specs.declared.state.MigState.{MigState}
 use Rattle.vfm_types.specs.declared.state.MigState.TheVariants.{PreCopy}
@@ -13,16 +13,15 @@ use Rattle.vfm_types.specs.Desc.{device_count, shape_at, job_at, block_count}
 use Rattle.vfm_types.specs.Phases.{is_begun, is_joint, is_aborted, is_resumed, pass_count}
 use Rattle.vfm_types.specs.Arcs.{state_of, arc_count}
 use Rattle.vfm_types.specs.Outstanding.{outstanding_of, issue_count, complete_count, outstanding_job_or_zero}
-use Rattle.vfm_types.specs.Marks.{is_marked, was_reported, has_reported, is_in_set, is_copied, writes_page, outstanding_job}
+use Rattle.vfm_types.specs.Marks.{is_marked, was_reported, has_reported, is_in_set, is_copied, writes_page}
 use Rattle.vfm_types.specs.Blocks.{is_unread, is_dirty, takes_part, was_dry, blocks_read}
 use Rattle.vfm_types.specs.Valid.{IsValid}
-use Rattle.vfm_plain.specs.Legal.{IsLegal, is_entry_of}
+use Rattle.vfm_plain.specs.Legal.{IsLegal}
 use Rattle.vfm_plain.specs.Rules.{fault_of}
 use Rattle.vfm_laws.proofs.Rising.{by_bool}
 use Rattle.vfm_laws.proofs.FewArcs.{few_arcs}
 use Rattle.vfm_parts.specs.Parts.{Dev, Lead, Parts, listed, numbers_below, one_more}
-use Rattle.vfm_parts.specs.PartsOf.{dev_of, lead_of, page_of, until_resumed, is_gathered, blocks_left, Tells}
-use Rattle.vfm_parts.specs.PartWords.{blocks_left_in}
+use Rattle.vfm_parts.specs.PartsOf.{dev_of, lead_of, is_gathered, blocks_left, Tells}
 use Rattle.vfm_parts.specs.IssueStep.{issued_dev}
 use Rattle.vfm_parts.specs.CompleteStep.{completed_dev}
 use Rattle.vfm_parts.specs.BeginStep.{begun_dev, begun_lead}
@@ -38,7 +37,7 @@ use Rattle.vfm_parts.specs.AbortStep.{aborted_dev, aborted_lead}
 use Rattle.vfm_parts.specs.ResumeStep.{resumed_dev, resumed_lead}
 use Rattle.vfm_parts.specs.JointStep.{joint_lead}
 use Rattle.vfm_parts.specs.Steps.{with_dev, parts_after}
-use Rattle.vfm_parts.proofs.Listed.{listed_at, listed_same, set_listed}
+use Rattle.vfm_parts.proofs.Listed.{listed_same, set_listed}
 use Rattle.vfm_parts.proofs.Sets.{has_below, below_same, below_none}
 use Rattle.vfm_parts.proofs.Words.{left_at}
 use Rattle.vfm_parts.proofs.Allowed.{on_live, report_on, block_on, begin_live, resume_kept, pass_number}
@@ -86,8 +85,11 @@ marks_more false false n writes marked = refl
 
 complete_here : (D : Desc) (past : List Entry) (d n : ℕ) → completed_dev D d n (dev_of D d past) ≡ dev_of D d (Complete d n ∷ past)
 complete_here D past d n =
-    rw (eq-eqb d d refl, marks_more (is_resumed past) (is_begun past) D.pages
-    (λ p. writes_page D p (job_at D d (outstanding_job_or_zero n (outstanding_of D d past)))) (λ p. is_marked D d p past)) refl
+    rw (
+      eq-eqb d d refl,
+      marks_more (is_resumed past) (is_begun past) D.pages
+          (λ p. writes_page D p (job_at D d (outstanding_job_or_zero n (outstanding_of D d past)))) (λ p. is_marked D d p past),
+    ) refl
 
 complete_other : (D : Desc) (past : List Entry) (d n k : ℕ) → (d == k) ≡ false → dev_of D k past ≡ dev_of D k (Complete d n ∷ past)
 complete_other D past d n k other = rw (other, more (complete_count k past)) refl
@@ -145,10 +147,13 @@ set_test n d test = set_listed n test d true ∙ listed_same n _ _ (λ k h. eith
 report_lead_is : (D : Desc) (past : List Entry) (d : ℕ) → is_resumed past ≡ false
     → reported_lead D d (dev_of D d past).marks (lead_of D past) ≡ lead_of D (Report d ∷ past)
 report_lead_is D past d live =
-    rw (live, set_test (device_count D) d (λ k. has_reported k past),
-    below_same D.pages (λ p. contains_page (numbers_below D.pages (λ q. is_marked D d q past)) p || contains_page (numbers_below D.pages (λ q. is_gathered D q past)) p)
-    (λ p. is_marked D d p past || is_gathered D p past)
-    (λ p h. ap₂ (λ (a b : Bool). a || b) (has_below D.pages (λ q. is_marked D d q past) p h) (has_below D.pages (λ q. is_gathered D q past) p h))) refl
+    rw (
+      live,
+      set_test (device_count D) d (λ k. has_reported k past),
+      below_same D.pages (λ p. contains_page (numbers_below D.pages (λ q. is_marked D d q past)) p || contains_page (numbers_below D.pages (λ q. is_gathered D q past)) p)
+          (λ p. is_marked D d p past || is_gathered D p past)
+          (λ p h. ap₂ (λ (a b : Bool). a || b) (has_below D.pages (λ q. is_marked D d q past) p h) (has_below D.pages (λ q. is_gathered D q past) p h)),
+    ) refl
 
 -- ---- passes, copies, blocks
 
@@ -207,11 +212,14 @@ dry_lead_is D past d =
 block_here : (D : Desc) (past : List Entry) (d b : ℕ) → is_resumed past ≡ false → read_dev D d b (dev_of D d past) ≡ dev_of D d (Block d b ∷ past)
 block_here D past d b live =
     let n = block_count (shape_at D d) in
-    rw (live, eq-eqb d d refl,
-    below_same n (λ c. not (b == c) && contains_page (numbers_below n (λ e. is_unread d e past)) c) (λ c. not (b == c) && is_unread d c past)
-    (λ c h. ap (λ (t : Bool). not (b == c) && t) (has_below n (λ e. is_unread d e past) c h)),
-    below_same n (λ c. not (b == c) && contains_page (numbers_below n (λ e. is_dirty D d e past)) c) (λ c. not (b == c) && is_dirty D d c past)
-    (λ c h. ap (λ (t : Bool). not (b == c) && t) (has_below n (λ e. is_dirty D d e past) c h))) refl
+    rw (
+      live,
+      eq-eqb d d refl,
+      below_same n (λ c. not (b == c) && contains_page (numbers_below n (λ e. is_unread d e past)) c) (λ c. not (b == c) && is_unread d c past)
+          (λ c h. ap (λ (t : Bool). not (b == c) && t) (has_below n (λ e. is_unread d e past) c h)),
+      below_same n (λ c. not (b == c) && contains_page (numbers_below n (λ e. is_dirty D d e past)) c) (λ c. not (b == c) && is_dirty D d c past)
+          (λ c h. ap (λ (t : Bool). not (b == c) && t) (has_below n (λ e. is_dirty D d e past) c h)),
+    ) refl
 
 block_other : (D : Desc) (past : List Entry) (d b k : ℕ) → (d == k) ≡ false → dev_of D k past ≡ dev_of D k (Block d b ∷ past)
 block_other D past d b k other = rw other refl

@@ -1,5 +1,5 @@
 -- Deliver changes the parts as it changes the facts.
-use Rattle.std.proofs.Common.{◌≡◌, ℕ, ◌+◌, ◌*◌, ◌<◌, ◌==◌, Bool, true, false, not, ◌&&◌, ◌||◌, if◌then◌else◌, nat_lt, List, [], ◌∷◌, length, None, IsTrue, refl, ap, ap₂, sym, ◌∙◌, subst, arith, eqb-true, ltb-true}
+use Rattle.std.proofs.Common.{◌≡◌, ℕ, ◌+◌, ◌*◌, ◌<◌, ◌==◌, Bool, true, false, not, ◌&&◌, ◌||◌, if◌then◌else◌, nat_lt, List, [], ◌∷◌, length, refl, ap, ap₂, sym, ◌∙◌, subst, eqb-true, ltb-true}
 use Rattle.std.proofs.lemmas.Bool.{eq-eqb, ne_eqb, cond-true, cond-false, eqb-false}
 use Rattle.vfm_types.specs.declared.job.Job.{Job}
 use Rattle.vfm_types.specs.declared.job.Region.{Region}
@@ -7,17 +7,16 @@ use Rattle.vfm_types.specs.declared.job.Region.TheVariants.{Page, Bar}
 use Rattle.vfm_types.specs.declared.desc.Desc.{Desc}
 use Rattle.vfm_types.specs.declared.entry.Entry.{Entry}
 use Rattle.vfm_types.specs.declared.entry.Entry.TheVariants.{Deliver}
-use Rattle.vfm_types.specs.Desc.{device_count, shape_at, job_at, block_count}
+use Rattle.vfm_types.specs.Desc.{device_count, shape_at, block_count}
 use Rattle.vfm_types.specs.Job.{place_of, length_of, is_bar_of, is_page, is_writer, is_doorbell}
-use Rattle.vfm_types.specs.Machine.{DeviceState, Machine, device_of, no_device, with_device, bytes_in, effect}
-use Rattle.vfm_types.specs.Requests.{job_or_zero, job_of, taken, is_enabled, do_request}
+use Rattle.vfm_types.specs.Machine.{DeviceState, Machine, device_of, with_device, bytes_in}
+use Rattle.vfm_types.specs.Requests.{job_or_zero, job_of, taken}
 use Rattle.vfm_types.specs.Deliveries.{machine_of, page_bytes}
 use Rattle.vfm_types.specs.Phases.{is_begun, is_resumed}
 use Rattle.vfm_types.specs.Outstanding.{Outstanding, outstanding_of, deliver_if}
 use Rattle.vfm_types.specs.Blocks.{is_unread, is_dirty, writes_block}
 use Rattle.vfm_types.specs.Valid.{IsValid, IsSoundJob}
-use Rattle.vfm_plain.specs.Legal.{IsLegal, is_entry_of}
-use Rattle.vfm_plain.specs.Rules.{fault_of}
+use Rattle.vfm_plain.specs.Legal.{IsLegal}
 use Rattle.vfm_plain.specs.Shape.{IsSound, LiesIn, Lies}
 use Rattle.vfm_plain.proofs.Sound.{sound_job, job_in_range, lies_of_job, some_bytes}
 use Rattle.vfm_plain.proofs.Steps.{free_job}
@@ -29,7 +28,7 @@ use Rattle.vfm_base.specs.PageSet.{contains_page}
 use Rattle.vfm_parts.specs.Parts.{Dev, Parts, numbers_below}
 use Rattle.vfm_parts.specs.PartsOf.{dev_of, page_of, until_resumed, Tells}
 use Rattle.vfm_parts.specs.DeliverStep.{job_in, region_of_job, region_bytes_in, buffer_after, page_after_job, target_after_job, delivered_dev, struck_dev, dirty_after_job, devs_after_deliver, pages_after_deliver}
-use Rattle.vfm_parts.proofs.Sets.{has_below, below_same, below_remade}
+use Rattle.vfm_parts.proofs.Sets.{has_below, below_same}
 use Rattle.vfm_parts.proofs.Allowed.{unread_before}
 use Rattle.vfm_parts.proofs.Delivered.{effect_device, effect_page}
 

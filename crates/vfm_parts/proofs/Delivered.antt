@@ -1,18 +1,17 @@
 -- What the effect of a job changes of a machine: the issuer's buffer, and the page or the device that it is aimed at.
-use Rattle.std.proofs.Common.{◌≡◌, ℕ, ◌+◌, ◌<◌, ◌==◌, Bool, true, false, not, ◌&&◌, ◌||◌, if◌then◌else◌, nat_lt, List, [], ◌∷◌, length, take, drop, slice_index_or, slice_set, refl, ap, ap₂, sym, ◌∙◌, subst, arith, eqb-true}
-use Rattle.std.proofs.lemmas.Bool.{eq-eqb, cond-true, cond-false, eqb-false, and_parts}
+use Rattle.std.proofs.Common.{◌≡◌, ℕ, ◌+◌, ◌<◌, ◌==◌, Bool, true, false, ◌&&◌, if◌then◌else◌, nat_lt, List, [], length, take, drop, slice_index_or, slice_set, refl, ap, sym, ◌∙◌, subst, arith, eqb-true}
+use Rattle.std.proofs.lemmas.Bool.{cond-false, eqb-false}
 use Rattle.std.proofs.lemmas.List.{get_or-set_same, get_or-set_other, length-set}
 use Rattle.std.specs.Int.{w64, from_le_bytes}
 use Rattle.vfm_types.specs.declared.job.Job.{Job}
 use Rattle.vfm_types.specs.declared.job.Job.TheVariants.{Write, Read, Store, Add}
-use Rattle.vfm_types.specs.declared.job.Place.{Place}
 use Rattle.vfm_types.specs.declared.job.Region.{Region}
 use Rattle.vfm_types.specs.declared.job.Region.TheVariants.{Page, Bar}
 use Rattle.vfm_types.specs.declared.desc.Desc.{Desc}
 use Rattle.vfm_types.specs.declared.desc.DevShape.{DevShape}
 use Rattle.vfm_types.specs.Desc.{shape_at}
-use Rattle.vfm_types.specs.Job.{place_of, is_bell, is_bar_of, is_page, owner_or_zero}
-use Rattle.vfm_types.specs.Machine.{DeviceState, Machine, device_of, no_device, with_device, bytes_in, with_bytes, bytes_at, put_at, with_front, with_bell_rung, with_accepted_request, ring, write_at, added, effect, splice}
+use Rattle.vfm_types.specs.Job.{place_of, is_bell, is_bar_of, is_page}
+use Rattle.vfm_types.specs.Machine.{DeviceState, Machine, device_of, no_device, with_device, bytes_in, with_bytes, bytes_at, put_at, with_bell_rung, with_accepted_request, ring, write_at, added, effect, splice}
 use Rattle.vfm_types.specs.Deliveries.{page_bytes}
 use Rattle.vfm_laws.proofs.Rising.{by_bool}
 use Rattle.vfm_parts.specs.Parts.{one_more}

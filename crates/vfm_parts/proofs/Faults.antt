@@ -1,6 +1,6 @@
 -- The first broken rule over the parts is that over the list, kind by kind.
-use Rattle.std.proofs.Common.{◌≡◌, ℕ, ◌+◌, ◌<◌, ◌==◌, Bool, true, false, not, ◌&&◌, ◌||◌, if◌then◌else◌, is_none, nat_le, nat_lt, List, [], ◌∷◌, Option, Some, None, IsTrue, refl, ap, ap₂, sym, ◌∙◌, arith, ltb-true}
-use Rattle.std.proofs.lemmas.Bool.{and_parts, not-true, false≢true}
+use Rattle.std.proofs.Common.{◌≡◌, ℕ, ◌+◌, ◌<◌, ◌==◌, Bool, true, false, not, ◌&&◌, ◌||◌, if◌then◌else◌, is_none, nat_le, nat_lt, List, [], ◌∷◌, Option, IsTrue, refl, ap, ap₂, ◌∙◌, ltb-true}
+use Rattle.std.proofs.lemmas.Bool.{and_parts}
 use Rattle.vfm_types.specs.declared.desc.Desc.{Desc}
 use Rattle.vfm_types.specs.declared.entry.Entry.{Entry}
 use Rattle.vfm_types.specs.declared.entry.Entry.TheVariants.{Issue, Deliver, Complete, Hold, Arc, Fail, Report, Pass, Copy, Block, Dry, Begin, Joint, Abort, Resume}
@@ -13,36 +13,30 @@ use Rattle.vfm_base.specs.Least.{all_below}
 use Rattle.vfm_types.specs.State.{has_pre_copy}
 use Rattle.vfm_types.specs.Paths.{same_state}
 use Rattle.vfm_types.specs.Desc.{device_count, shape_at, block_count}
-use Rattle.vfm_types.specs.Phases.{is_begun, is_joint, is_aborted, is_resumed, is_failed, is_on, pass_count, is_last_begun}
-use Rattle.vfm_types.specs.Arcs.{state_of, hold_of, arc_count, is_p2p, is_stopped}
-use Rattle.vfm_types.specs.Marks.{next_copy, has_reported}
-use Rattle.vfm_types.specs.Blocks.{is_unread, is_dirty, next_block, next_part, is_no_pass_open}
-use Rattle.vfm_types.specs.Outstanding.{issue_count, complete_count, outstanding_of}
-use Rattle.vfm_types.specs.Words.{is_quiet, none_stopped, is_decided, is_held_for, is_idle, is_nothing, has_barred, is_next_towards}
-use Rattle.vfm_plain.specs.Condition.{Condition, is_exactly}
+use Rattle.vfm_types.specs.Phases.{is_begun, is_joint, is_aborted, is_resumed, is_on, pass_count, is_last_begun}
+use Rattle.vfm_types.specs.Arcs.{state_of, arc_count, is_p2p, is_stopped}
+use Rattle.vfm_types.specs.Marks.{has_reported}
+use Rattle.vfm_types.specs.Blocks.{is_unread, is_dirty, next_block, is_no_pass_open}
+use Rattle.vfm_types.specs.Outstanding.{issue_count}
+use Rattle.vfm_types.specs.Words.{is_quiet, none_stopped, is_decided, is_held_for, is_nothing, has_barred}
+use Rattle.vfm_plain.specs.Condition.{is_exactly}
 use Rattle.vfm_plain.specs.Legal.{is_entry_of}
 use Rattle.vfm_plain.specs.Rules.{fault_of}
 use Rattle.vfm_plain.specs.IssueRules.{is_next_to_issue, is_request_allowed}
 use Rattle.vfm_plain.specs.HoldRules.{may_be_held, is_next_to_stop_copy, is_quiet_for_hold}
-use Rattle.vfm_plain.specs.ArcRules.{may_take_arcs, is_right_arc, is_quiet_for_arc, is_entering_p2p, is_stopping, is_leaving_p2p, is_arc_home}
-use Rattle.vfm_plain.specs.FailRules.{is_right_fail}
+use Rattle.vfm_plain.specs.ArcRules.{may_take_arcs, is_quiet_for_arc, is_entering_p2p, is_stopping, is_leaving_p2p, is_arc_home}
 use Rattle.vfm_plain.specs.BeginRules.{may_begin_move, is_before_move}
-use Rattle.vfm_plain.specs.PassRules.{is_next_pass, is_pass_wanted}
 use Rattle.vfm_plain.specs.BlockRules.{is_block_due}
 use Rattle.vfm_plain.specs.DryRules.{is_dry_due}
 use Rattle.vfm_parts.specs.Parts.{Dev, Lead, Parts}
 use Rattle.vfm_parts.specs.PartsOf.{lead_of, dev_of, Tells}
-use Rattle.vfm_parts.specs.PartWords.{is_quiet_in, none_stopped_in, is_idle_in, is_no_pass_open_in, is_decided_in, has_reported_in, is_way_open_in, is_next_towards_in, next_copy_in, next_part_in, is_hold_for}
+use Rattle.vfm_parts.specs.PartWords.{is_quiet_in, none_stopped_in, is_idle_in, is_decided_in, has_reported_in, is_way_open_in, is_next_towards_in}
 use Rattle.vfm_parts.specs.IssueStep.{issue_conditions_in}
 use Rattle.vfm_parts.specs.DeliverStep.{deliver_conditions_in}
 use Rattle.vfm_parts.specs.CompleteStep.{complete_conditions_in}
-use Rattle.vfm_parts.specs.BeginStep.{begin_conditions_in, may_begin_move_in}
-use Rattle.vfm_parts.specs.HoldStep.{hold_conditions_in}
-use Rattle.vfm_parts.specs.ArcStep.{arc_conditions_in, is_quiet_for_arc_in, is_right_arc_in}
-use Rattle.vfm_parts.specs.FailStep.{fail_conditions_in, is_right_fail_in}
-use Rattle.vfm_parts.specs.ReportStep.{report_conditions_in}
-use Rattle.vfm_parts.specs.PassStep.{pass_conditions_in}
-use Rattle.vfm_parts.specs.CopyStep.{copy_conditions_in}
+use Rattle.vfm_parts.specs.BeginStep.{may_begin_move_in}
+use Rattle.vfm_parts.specs.ArcStep.{is_quiet_for_arc_in, is_right_arc_in}
+use Rattle.vfm_parts.specs.FailStep.{is_right_fail_in}
 use Rattle.vfm_parts.specs.BlockStep.{block_conditions_in, next_block_in, is_block_due_in}
 use Rattle.vfm_parts.specs.DryStep.{dry_conditions_in, is_dry_due_in}
 use Rattle.vfm_parts.specs.JointStep.{is_all_in_stop_copy_in}
@@ -151,12 +145,18 @@ fault_told D past parts tells (Report d) inside =
     let h = ltb-true d (device_count D) inside in
     lead_told D past parts tells (Report d)
     ∙ ap₂ (λ (closed has : Bool). first_failed ((is_on past, Order)
-    ∷ (nat_lt 0 (pass_count past) && closed && not has
-    && (if is_joint past then not (is_last_begun past) else not (is_decided_in D (lead_of D past))), Pages) ∷ []))
+    ∷ (
+      nat_lt 0 (pass_count past) && closed && not has
+          && (if is_joint past then not (is_last_begun past) else not (is_decided_in D (lead_of D past))),
+      Pages,
+    ) ∷ []))
     (closed_is D past) (reported_is D past d h)
     ∙ ap (λ (decided : Bool). first_failed ((is_on past, Order)
-    ∷ (nat_lt 0 (pass_count past) && is_no_pass_open D past && not (has_reported d past)
-    && (if is_joint past then not (is_last_begun past) else not decided), Pages) ∷ [])) (decided_is D past)
+    ∷ (
+      nat_lt 0 (pass_count past) && is_no_pass_open D past && not (has_reported d past)
+          && (if is_joint past then not (is_last_begun past) else not decided),
+      Pages,
+    ) ∷ [])) (decided_is D past)
 fault_told D past parts tells (Pass k) inside =
     lead_told D past parts tells (Pass k)
     ∙ ap₂ (λ (closed ready : Bool). first_failed ((is_on past, Order)
@@ -165,8 +165,11 @@ fault_told D past parts tells (Pass k) inside =
     (closed_is D past) (pre_copied_is D past parts tells)
     ∙ ap₂ (λ (all decided : Bool). first_failed ((is_on past, Order)
     ∷ (k == pass_count past + 1 && is_no_pass_open D past && (nat_le k 1 || all), Pages)
-    ∷ (if is_joint past then not (is_last_begun past) else not decided
-    && (not (k == 1) || all_below (device_count D) (λ d. not (has_pre_copy (shape_at D d).flags) || same_state (state_of d past) PreCopy)), Decide) ∷ []))
+    ∷ (
+      if is_joint past then not (is_last_begun past) else not decided
+          && (not (k == 1) || all_below (device_count D) (λ d. not (has_pre_copy (shape_at D d).flags) || same_state (state_of d past) PreCopy)),
+      Decide,
+    ) ∷ []))
     (all_reported_is D past parts tells) (decided_is D past)
 fault_told D past parts tells (Copy p) inside =
     lead_told D past parts tells (Copy p)

@@ -1,5 +1,5 @@
 -- Sets of the numbers below a bound that pass a test.
-use Rattle.std.proofs.Common.{◌≡◌, ℕ, zero, suc, ◌+◌, ◌<◌, ◌≤◌, Bool, true, false, cond, ◌&&◌, ◌||◌, List, [], ◌∷◌, length, Option, Some, None, refl, ap, sym, ◌∙◌, arith}
+use Rattle.std.proofs.Common.{◌≡◌, ℕ, zero, suc, ◌+◌, ◌<◌, Bool, true, false, cond, [], ◌∷◌, length, Some, refl, ap, ◌∙◌, arith}
 use Rattle.vfm_base.specs.Least.{count_below, least_from, least_below}
 use Rattle.vfm_base.specs.PageSet.{numbers_where, contains_page, least_page_from}
 use Rattle.vfm_base.proofs.NumbersWhere.{contains-numbers_where, numbers_where_same, numbers_where_none, numbers_where-add, length-cond}

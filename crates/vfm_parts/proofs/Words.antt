@@ -1,13 +1,13 @@
 -- The words of the conditions over the coordinator's part of a list are those over the list.
-use Rattle.std.proofs.Common.{◌≡◌, ℕ, ◌+◌, ◌-◌, ◌<◌, ◌==◌, Bool, true, false, not, ◌&&◌, ◌||◌, if◌then◌else◌, is_none, nat_le, nat_lt, List, length, Option, Some, None, refl, ap, ap₂, sym, ◌∙◌, arith, lt-ltb, ◌⊎◌, inl, inr, ◌≤◌}
+use Rattle.std.proofs.Common.{◌≡◌, ℕ, ◌-◌, ◌<◌, ◌==◌, Bool, true, false, not, ◌&&◌, ◌||◌, if◌then◌else◌, nat_le, nat_lt, List, Option, Some, None, refl, ap, ap₂, sym, ◌∙◌, arith, lt-ltb, ◌⊎◌, inl, inr, ◌≤◌}
 use Rattle.std.proofs.lemmas.Bool.{cases_lt, le-ltb}
 use Rattle.vfm_types.specs.declared.desc.Desc.{Desc}
 use Rattle.vfm_types.specs.declared.entry.Entry.{Entry}
 use Rattle.vfm_types.specs.declared.state.MigState.{MigState}
 use Rattle.vfm_types.specs.Desc.{device_count, shape_at, block_count}
-use Rattle.vfm_types.specs.Phases.{is_begun, is_aborted, is_resumed, pass_count}
+use Rattle.vfm_types.specs.Phases.{pass_count}
 use Rattle.vfm_types.specs.Arcs.{hold_of}
-use Rattle.vfm_types.specs.Marks.{is_in_set, is_copied, next_copy, set_size, has_reported}
+use Rattle.vfm_types.specs.Marks.{is_in_set, is_copied, next_copy, has_reported}
 use Rattle.vfm_types.specs.Blocks.{has_part, next_part, is_no_pass_open, takes_part, was_dry, blocks_read}
 use Rattle.vfm_types.specs.Words.{is_decided, is_held_for}
 use Rattle.vfm_parts.specs.PartsOf.{lead_of, blocks_left}

@@ -1,15 +1,14 @@
 -- The world of a list: it holds the list's facts, it is that of the described machine at first, and one more entry
 -- changes it as it changes the facts.
-use Rattle.std.proofs.Common.{◌≡◌, ℕ, ◌<◌, ◌&&◌, Bool, true, false, List, [], ◌∷◌, map, replicate, length, slice_index_or, refl, ap, ap₂, sym, ◌∙◌}
+use Rattle.std.proofs.Common.{◌≡◌, ℕ, ◌<◌, List, [], ◌∷◌, map, replicate, slice_index_or, refl, ap, ap₂, sym, ◌∙◌}
 use Rattle.std.proofs.lemmas.List.{length-map, length-replicate, get_or-map}
 use Rattle.vfm_types.specs.declared.desc.Desc.{Desc}
-use Rattle.vfm_types.specs.declared.desc.DevShape.{DevShape}
 use Rattle.vfm_types.specs.declared.entry.Entry.{Entry}
 use Rattle.vfm_types.specs.Desc.{device_count, shape_at, no_shape, block_count}
-use Rattle.vfm_types.specs.Machine.{DeviceState, described_device, no_device}
+use Rattle.vfm_types.specs.Machine.{described_device, no_device}
 use Rattle.vfm_types.specs.Valid.{IsValid}
 use Rattle.vfm_plain.specs.Legal.{IsLegal}
-use Rattle.vfm_parts.specs.Parts.{Dev, Lead, World, Parts, parts_in, no_dev, listed, numbers_below}
+use Rattle.vfm_parts.specs.Parts.{Dev, Lead, parts_in, no_dev}
 use Rattle.vfm_parts.specs.PartsOf.{lead_of, dev_of, page_of, world_of, Tells}
 use Rattle.vfm_parts.specs.Start.{first_dev, first_lead, first_world}
 use Rattle.vfm_parts.specs.Steps.{parts_after, after_on}

@@ -1,5 +1,5 @@
 -- Abort on the parts: the coordinator's, and every device's.
-use Rattle.std.specs.Prelude.{ℕ, ◌&&◌, not, Bool, true, false, List, [], ◌∷◌, None}
+use Rattle.std.specs.Prelude.{◌&&◌, not, Bool, true, false, List, [], ◌∷◌, None}
 use Rattle.vfm_types.specs.declared.entry.Rule.TheVariants.{Order}
 use Rattle.vfm_plain.specs.Condition.{Condition}
 use Rattle.vfm_parts.specs.Parts.{Dev, Lead}

@@ -4,7 +4,6 @@ use Rattle.vfm_types.specs.declared.state.MigState.TheVariants.{PreCopy}
 use Rattle.vfm_types.specs.declared.entry.Rule.TheVariants.{Decide, Order, Pages}
 use Rattle.vfm_types.specs.declared.desc.Desc.{Desc}
 use Rattle.vfm_base.specs.Least.{all_below}
-use Rattle.vfm_base.specs.PageSet.{contains_page}
 use Rattle.vfm_types.specs.State.{has_pre_copy}
 use Rattle.vfm_types.specs.Paths.{same_state}
 use Rattle.vfm_types.specs.Desc.{device_count, shape_at, block_count}

@@ -1,5 +1,5 @@
 -- Resume on the parts: the coordinator's, and every device's.
-use Rattle.std.specs.Prelude.{ℕ, ◌&&◌, Bool, true, false, List, [], ◌∷◌}
+use Rattle.std.specs.Prelude.{◌&&◌, Bool, true, false, List, [], ◌∷◌}
 use Rattle.vfm_types.specs.declared.state.MigState.TheVariants.{Resuming}
 use Rattle.vfm_types.specs.declared.entry.Rule.TheVariants.{Joint as Standing, Order}
 use Rattle.vfm_types.specs.declared.desc.Desc.{Desc}

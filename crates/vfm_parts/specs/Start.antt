@@ -1,5 +1,5 @@
 -- The parts before the first entry: those of the described machine.
-use Rattle.std.specs.Prelude.{ℕ, true, false, [], map, replicate}
+use Rattle.std.specs.Prelude.{true, false, [], map, replicate}
 use Rattle.vfm_types.specs.declared.desc.Desc.{Desc}
 use Rattle.vfm_types.specs.declared.desc.DevShape.{DevShape}
 use Rattle.vfm_types.specs.Desc.{device_count, block_count}

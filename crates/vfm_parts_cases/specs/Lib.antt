@@ -1,2 +1,2 @@
 pub mod Follows
-pub mod Forgotten
+pub mod ForgottenFields

@@ -7,7 +7,7 @@ ghost use Rattle.vfm_cases.specs.Peers.{peers};
 ghost use Rattle.vfm_cases.specs.Rounds.{rounds_two};
 ghost use Rattle.vfm_cases.specs.Reading.{reading};
 ghost use Rattle.vfm_parts.specs.Steps.{fault_on};
-ghost use Rattle.vfm_parts_cases.specs.Forgotten.{parts_after_journal, without_logging, without_released, without_marks, without_unread, without_dirty, without_gathered, without_reported, without_parts, without_left, with_copied, with_read, pass_begun, page_copied, block_read, log_reported, second_begun, reported_and_begun, before_block};
+ghost use Rattle.vfm_parts_cases.specs.ForgottenFields.{parts_after_journal, without_logging, without_released, without_marks, without_unread, without_dirty, without_gathered, without_reported, without_parts, without_left, with_copied, with_read, pass_begun, page_copied, block_read, log_reported, second_begun, reported_and_begun, before_block};
 
 /// A device that forgot that its log was started issues nothing more before the move than is wanted there.
 pub fn logging_is_needed()

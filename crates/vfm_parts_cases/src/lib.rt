@@ -2,5 +2,7 @@
 //! themselves.
 #![tactic(auto)]
 
+pub mod cells;
 pub mod forgotten;
 pub mod journals;
+pub mod staged;

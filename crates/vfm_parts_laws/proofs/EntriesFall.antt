@@ -38,7 +38,7 @@ use Rattle.vfm_parts.specs.JointStep.{is_all_in_stop_copy_in, joint_lead}
 use Rattle.vfm_parts.specs.AbortStep.{aborted_dev, aborted_lead}
 use Rattle.vfm_parts.specs.ResumeStep.{resumed_dev, resumed_lead, is_state_copied_in}
 use Rattle.vfm_parts.specs.Steps.{fault_in, with_dev, parts_after, dev_after, page_after}
-use Rattle.vfm_parts_laws.specs.Room.{sum_below, is_over, arcs_home, moves_left, requests_left, reads_left, report_left, device_left, pass_size, passes_left, phases_left, entries_left, PartsStand}
+use Rattle.vfm_parts_laws.specs.EntriesLeft.{sum_below, is_over, arcs_home, moves_left, requests_left, reads_left, report_left, device_left, pass_size, passes_left, phases_left, entries_left, PartsStand}
 use Rattle.vfm_parts_laws.proofs.Fitting.{lies, bar_inside, pass_few, pass_fits}
 use Rattle.vfm_parts_laws.proofs.Standing.{hold_allowed, arc_allowed}
 use Rattle.vfm_parts_laws.proofs.Sums.{sum_le, sum_two, sum_listed}

@@ -31,7 +31,7 @@ use Rattle.vfm_parts.specs.IssueStep.{issue_conditions_in, is_next_to_issue_in, 
 use Rattle.vfm_parts.specs.DeliverStep.{deliver_conditions_in, delivered_dev, struck_dev, target_after_job}
 use Rattle.vfm_parts.specs.CompleteStep.{complete_conditions_in, completed_dev}
 use Rattle.vfm_parts.proofs.Sets.{least_is, size_is}
-use Rattle.vfm_parts_laws.specs.Room.{sum_below, is_over, arcs_home, steps_out, hold_made, moves_left, requests_left, reads_left, report_left, device_left, DevStands}
+use Rattle.vfm_parts_laws.specs.EntriesLeft.{sum_below, is_over, arcs_home, steps_out, hold_made, moves_left, requests_left, reads_left, report_left, device_left, DevStands}
 use Rattle.vfm_parts_laws.proofs.FittingQueues.{turn_in, length_completed, length_push}
 use Rattle.vfm_parts_laws.proofs.FittingTargets.{kept_target}
 use Rattle.vfm_parts_laws.proofs.Standing.{Way, home, early, held, final}

@@ -20,7 +20,7 @@ use Rattle.vfm_parts.specs.Steps.{fault_in, parts_after, dev_after, page_after, 
 use Rattle.vfm_parts.proofs.Listed.{listed_at, length-listed}
 use Rattle.vfm_parts.proofs.Faults.{fault_told}
 use Rattle.vfm_parts.proofs.Worlds.{world_tells, world_first, world_after}
-use Rattle.vfm_parts_laws.specs.Staged.{staged_dev, staged_world}
+use Rattle.vfm_parts_laws.specs.StagedParts.{staged_dev, staged_world}
 use Rattle.vfm_parts_laws.proofs.FittingQueues.{set_fits, empty_fits}
 use Rattle.vfm_parts_laws.proofs.Fitting.{step_fits}
 

@@ -1,7 +1,7 @@
 -- What is seen of the parts of a list is what the list says.
 use Rattle.std.proofs.lemmas.Option.{none-some}
 use Rattle.std.proofs.lemmas.Bool.{or_parts}
-use Rattle.std.proofs.Common.{◌≡◌, ℕ, zero, suc, ◌+◌, ◌<◌, ◌||◌, Bool, true, false, is_none, nat_lt, if◌then◌else◌, List, [], ◌∷◌, length, slice_index_or, Option, Some, None, unwrap_or, refl, ap, ◌∙◌, arith, true≢false}
+use Rattle.std.proofs.Common.{◌≡◌, ℕ, zero, suc, ◌+◌, ◌<◌, ◌||◌, Bool, true, false, is_none, nat_lt, if◌then◌else◌, List, [], ◌∷◌, length, slice_index_or, Option, Some, None, unwrap_or, refl, ap, ◌∙◌, arith}
 use Rattle.vfm_types.specs.declared.desc.Desc.{Desc}
 use Rattle.vfm_types.specs.declared.entry.Entry.{Entry}
 use Rattle.vfm_types.specs.declared.entry.Rule.TheVariants.{Turn, Barred, Start}
@@ -27,7 +27,7 @@ use Rattle.vfm_parts.proofs.Words.{freely, copy_is, part_is}
 use Rattle.vfm_parts.specs.PartWords.{is_no_pass_open_in}
 use Rattle.vfm_parts.proofs.Listed.{listed_at}
 use Rattle.vfm_parts.proofs.Faults.{quiet_for_arc_is, blocks_are}
-use Rattle.vfm_parts_laws.specs.Staged.{staged_lead}
+use Rattle.vfm_parts_laws.specs.StagedParts.{staged_lead}
 use Rattle.vfm_parts.proofs.Worlds.{world_tells}
 use Rattle.vfm_parts_laws.specs.LooksIn.{look_in, next_arc_in, is_ready_in, due_of_pass, block_of_part, due_copy_in, due_part_in, due_block_in, due_copy, due_part, due_block}
 

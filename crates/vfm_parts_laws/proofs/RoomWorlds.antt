@@ -1,6 +1,6 @@
 -- How many entries are left to a world: at first, staged, and after each step.
 use Rattle.std.proofs.lemmas.Option.{none-some}
-use Rattle.std.proofs.Common.{◌≡◌, ℕ, ◌+◌, ◌*◌, ◌<◌, ◌≤◌, Bool, true, false, List, [], ◌∷◌, length, Some, None, IsTrue, refl, ap, sym, ◌∙◌, subst, arith, zero-mul}
+use Rattle.std.proofs.Common.{◌≡◌, ℕ, ◌+◌, ◌*◌, ◌<◌, ◌≤◌, Bool, true, false, List, [], ◌∷◌, length, None, IsTrue, refl, ap, sym, ◌∙◌, subst, arith, zero-mul}
 use Rattle.vfm_types.specs.declared.desc.Desc.{Desc}
 use Rattle.vfm_types.specs.declared.entry.Entry.{Entry}
 use Rattle.vfm_types.specs.Desc.{device_count, shape_at, no_shape, all_budgets}
@@ -18,8 +18,8 @@ use Rattle.vfm_parts.proofs.Listed.{listed_at}
 use Rattle.vfm_parts.proofs.Sets.{below_none}
 use Rattle.vfm_parts.proofs.Faults.{fault_told}
 use Rattle.vfm_parts.proofs.Worlds.{world_tells, world_after}
-use Rattle.vfm_parts_laws.specs.Staged.{staged_dev, staged_lead, staged_world}
-use Rattle.vfm_parts_laws.specs.Room.{sum_below, moves_left, requests_left, reads_left, report_left, device_left, pass_size, passes_left, phases_left, entries_left, room_of_run, DevStands, PartsStand}
+use Rattle.vfm_parts_laws.specs.StagedParts.{staged_dev, staged_lead, staged_world}
+use Rattle.vfm_parts_laws.specs.EntriesLeft.{sum_below, moves_left, requests_left, reads_left, report_left, device_left, pass_size, passes_left, phases_left, entries_left, room_of_run, DevStands, PartsStand}
 use Rattle.vfm_parts_laws.proofs.FittingWorlds.{list_fits}
 use Rattle.vfm_parts_laws.proofs.Standing.{step_stands}
 use Rattle.vfm_parts_laws.proofs.Sums.{sum_same, sum_bound, sum_listed}

@@ -33,7 +33,7 @@ use Rattle.vfm_parts.specs.BeginStep.{may_begin_move_in}
 use Rattle.vfm_parts.specs.JointStep.{is_all_in_stop_copy_in}
 use Rattle.vfm_parts.specs.Steps.{fault_in}
 use Rattle.vfm_parts.proofs.Listed.{all_below_same}
-use Rattle.vfm_parts_laws.specs.Staged.{IsSealed, AgreesInRest, is_pass}
+use Rattle.vfm_parts_laws.specs.StagedParts.{IsSealed, AgreesInRest, is_pass}
 
 -- ---- what a sealed machine answers
 

@@ -25,7 +25,7 @@ use Rattle.vfm_parts.specs.AbortStep.{aborted_dev}
 use Rattle.vfm_parts.specs.ResumeStep.{resumed_dev}
 use Rattle.vfm_parts.specs.Steps.{fault_in, dev_after, page_after, parts_after, with_dev, after_on}
 use Rattle.vfm_parts.proofs.Listed.{listed_at, length-listed}
-use Rattle.vfm_parts_laws.specs.Staged.{IsSealed, still_asked, AgreesInRest}
+use Rattle.vfm_parts_laws.specs.StagedParts.{IsSealed, still_asked, AgreesInRest}
 use Rattle.vfm_parts_laws.proofs.Sealed.{hold_sealed, fail_sealed, report_sealed, pass_sealed, copy_sealed, block_sealed, dry_sealed, begin_sealed, joint_sealed}
 
 -- ---- entries that aren't allowed any more

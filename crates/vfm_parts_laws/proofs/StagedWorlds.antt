@@ -31,7 +31,7 @@ use Rattle.vfm_parts.proofs.Words.{closed_is}
 use Rattle.vfm_parts.proofs.Allowed.{none_is, on_begun}
 use Rattle.vfm_parts.proofs.Faults.{fault_told}
 use Rattle.vfm_parts.proofs.Worlds.{world_tells, world_after}
-use Rattle.vfm_parts_laws.specs.Staged.{staged_dev, staged_world, IsSealed, still_asked, AgreesInRest, IsStagedAfter, is_pass}
+use Rattle.vfm_parts_laws.specs.StagedParts.{staged_dev, staged_world, IsSealed, still_asked, AgreesInRest, IsStagedAfter, is_pass}
 use Rattle.vfm_parts_laws.proofs.LookFacts.{bare_ended}
 use Rattle.vfm_parts_laws.proofs.Sealed.{fault_same, allowed_same}
 use Rattle.vfm_parts_laws.proofs.SealedSteps.{is_refused, refused, after_agrees, after_sealed, world_agrees, world_sealed}

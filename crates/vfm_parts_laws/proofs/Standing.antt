@@ -32,7 +32,7 @@ use Rattle.vfm_parts.specs.DeliverStep.{job_in, region_of_job, region_bytes_in, 
 use Rattle.vfm_parts.specs.HoldStep.{may_be_held_in, is_next_to_stop_copy_in, is_quiet_for_hold_in}
 use Rattle.vfm_parts.specs.ArcStep.{may_take_arcs_in, is_arc_home_in, is_right_arc_in, is_quiet_for_arc_in}
 use Rattle.vfm_parts.specs.Steps.{fault_in, with_dev, parts_after, dev_after, lead_after}
-use Rattle.vfm_parts_laws.specs.Room.{is_over, DevStands, PartsStand}
+use Rattle.vfm_parts_laws.specs.EntriesLeft.{is_over, DevStands, PartsStand}
 
 -- ---- what a hold and an arc are allowed for
 

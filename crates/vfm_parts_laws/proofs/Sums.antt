@@ -5,7 +5,7 @@ use Rattle.std.proofs.lemmas.Bool.{cases_lt, ne_eqb, eq-eqb}
 use Rattle.std.specs.List.{sum_by}
 use Rattle.std.proofs.lemmas.List.Sums.{sum_by-cons}
 use Rattle.vfm_base.specs.Least.{count_below}
-use Rattle.vfm_parts_laws.specs.Room.{sum_below}
+use Rattle.vfm_parts_laws.specs.EntriesLeft.{sum_below}
 
 pub sum_le : (n : ℕ) (f g : ℕ → ℕ) → ((k : ℕ) → k < n → g k ≤ f k) → sum_below n g ≤ sum_below n f
 sum_le zero f g h = omega arith
@@ -56,6 +56,7 @@ count_without zero test p high = refl
 count_without (suc n) test p high =
     ap₂ (λ (a : ℕ) (b : Bool). a + one_if (test n && not b)) (count_without n test p (omega arith)) (ne_eqb p n (λ same. omega arith))
     ∙ ap (λ (b : Bool). count_below n test + one_if b) (and-true (test n))
+
 -- one member less
 pub count_less : (n : ℕ) (test : ℕ → Bool) (p : ℕ) → p < n → test p ≡ true
     → count_below n (λ q. test q && not (p == q)) + 1 ≡ count_below n test

@@ -1,3 +1,3 @@
-pub mod Staged
+pub mod StagedParts
 pub mod LooksIn
-pub mod Room
+pub mod EntriesLeft

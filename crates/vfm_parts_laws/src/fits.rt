@@ -20,7 +20,7 @@ ghost use Rattle.vfm_parts.specs.IssueStep.{issue_conditions_in, issued_dev};
 ghost use Rattle.vfm_parts.specs.DeliverStep.{deliver_conditions_in, job_in, delivered_dev, struck_dev, page_after_job};
 ghost use Rattle.vfm_parts.specs.CompleteStep.{complete_conditions_in, completed_dev};
 ghost use Rattle.vfm_parts.specs.Steps.{fault_in, parts_after, fault_on, after_on};
-ghost use Rattle.vfm_parts_laws.specs.Staged.{staged_world};
+ghost use Rattle.vfm_parts_laws.specs.StagedParts.{staged_world};
 
 /// The parts fit at first, and after every legal list.
 pub fn parts_of_lists_fit()

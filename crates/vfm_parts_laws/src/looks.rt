@@ -15,7 +15,7 @@ ghost use Rattle.vfm_parts.specs.Parts.{dev_at, parts_in};
 ghost use Rattle.vfm_parts.specs.PartsOf.{world_of};
 ghost use Rattle.vfm_parts.specs.PartWords.{is_no_pass_open_in, has_reported_in, is_decided_in, next_copy_in, next_part_in};
 ghost use Rattle.vfm_parts.specs.BlockStep.{next_block_in};
-ghost use Rattle.vfm_parts_laws.specs.Staged.{staged_world};
+ghost use Rattle.vfm_parts_laws.specs.StagedParts.{staged_world};
 ghost use Rattle.vfm_parts_laws.specs.LooksIn.{look_in, next_arc_in, is_ready_in, due_copy_in, due_part_in, due_block_in, due_copy, due_part, due_block};
 
 /// What is seen of a device by its part is what the list says of it, every field at once; so are the state that its next

@@ -12,8 +12,8 @@ ghost use Rattle.vfm_parts.specs.PartsOf.{world_of};
 ghost use Rattle.vfm_parts.specs.Start.{first_world};
 ghost use Rattle.vfm_parts.specs.Fits.{PartsFit};
 ghost use Rattle.vfm_parts.specs.Steps.{fault_in, parts_after, fault_on, after_on};
-ghost use Rattle.vfm_parts_laws.specs.Staged.{staged_world};
-ghost use Rattle.vfm_parts_laws.specs.Room.{PartsStand, entries_left, room_of_run};
+ghost use Rattle.vfm_parts_laws.specs.StagedParts.{staged_world};
+ghost use Rattle.vfm_parts_laws.specs.EntriesLeft.{PartsStand, entries_left, room_of_run};
 
 /// Each entry that breaks no rule leaves at least one entry less, so no run of the rules is endless.
 pub fn steps_leave_less()

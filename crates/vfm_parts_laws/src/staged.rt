@@ -11,7 +11,7 @@ ghost use Rattle.vfm_plain.specs.Legal.{IsLegal, is_entry_of};
 ghost use Rattle.vfm_plain.specs.Ended.{is_last_ended};
 ghost use Rattle.vfm_parts.specs.Parts.{World};
 ghost use Rattle.vfm_parts.specs.Steps.{fault_on, after_on};
-ghost use Rattle.vfm_parts_laws.specs.Staged.{staged_world, IsStagedAfter, is_pass};
+ghost use Rattle.vfm_parts_laws.specs.StagedParts.{staged_world, IsStagedAfter, is_pass};
 
 /// After a legal list whose last pass has ended, and in which no arc failed and nobody gave up or took over, the parts
 /// of the list's machine, staged, agree with those of the list in all that is still asked.

@@ -2,7 +2,7 @@
 use Rattle.std.proofs.Common.{◌≤◌, subst}
 use Rattle.vfm_parts.specs.Parts.{World, parts_in}
 use Rattle.vfm_parts.proofs.Worlds.{world_first}
-use Rattle.vfm_parts_laws.specs.Room.{entries_left, room_of_run}
+use Rattle.vfm_parts_laws.specs.EntriesLeft.{entries_left, room_of_run}
 use Rattle.vfm_parts_laws.proofs.RoomWorlds.{first_room, staged_room}
 use Rattle.vfm_parts_laws.proofs.room.room_is_enough.Goals as goal
 

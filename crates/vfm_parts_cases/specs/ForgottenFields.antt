@@ -1,5 +1,5 @@
 -- Worlds in which something that a part remembers was forgotten.
-use Rattle.std.specs.Prelude.{ℕ, Bool, false, List, [], ◌∷◌, ◌++◌, map, reverse, take, length, replicate}
+use Rattle.std.specs.Prelude.{false, List, [], map, reverse, take}
 use Rattle.vfm_types.specs.declared.desc.Desc.{Desc}
 use Rattle.vfm_types.specs.declared.entry.Entry.{Entry}
 use Rattle.vfm_types.specs.declared.entry.Entry.TheVariants.{Pass, Report}
