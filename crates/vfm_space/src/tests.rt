@@ -56,7 +56,7 @@ impl Plain {
     // Writes these bytes, a byte at a time.
     fn write(&mut self, offset: usize, bytes: &[u8]) {
         for (i, byte) in bytes.iter().enumerate() {
-            let at = (offset + i) % 512;
+            let at = offset.wrapping_add(i) % 512;
             self.bytes[at] = *byte;
             if !self.unread[at / 64] {
                 self.dirty[at / 64] = true;
