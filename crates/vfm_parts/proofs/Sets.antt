@@ -1,10 +1,10 @@
 -- Sets of the numbers below a bound that pass a test.
-use Rattle.std.proofs.Common.{◌≡◌, ℕ, zero, suc, ◌+◌, ◌<◌, Bool, true, false, cond, [], ◌∷◌, length, Some, refl, ap, ◌∙◌, arith}
+use Rattle.std.proofs.Common.{List, sym, ◌≡◌, ℕ, zero, suc, ◌+◌, ◌<◌, Bool, true, false, cond, [], ◌∷◌, length, Some, refl, ap, ◌∙◌, arith, ◌-◌, ◌≤◌, ◌++◌}
 use Rattle.vfm_base.specs.Least.{count_below, least_from, least_below}
-use Rattle.vfm_base.specs.PageSet.{numbers_where, contains_page, least_page_from}
-use Rattle.vfm_base.proofs.NumbersWhere.{contains-numbers_where, numbers_where_same, numbers_where_none, numbers_where-add, length-cond}
+use Rattle.vfm_base.specs.PageSet.{pages_where, numbers_where, contains_page, least_page_from}
+use Rattle.vfm_base.proofs.NumbersWhere.{contains-numbers_where, numbers_where_same, numbers_where_none, numbers_where-add, length-cond, pages_where_is}
 use Rattle.std.proofs.lemmas.Bool.{le-leb, cond-true}
-use Rattle.std.proofs.lemmas.List.{length-append}
+use Rattle.std.proofs.lemmas.List.{length-append, append-nil}
 use Rattle.vfm_parts.specs.Parts.{numbers_below}
 
 -- a set has the numbers that pass
@@ -51,3 +51,16 @@ size_is (suc n) test =
         let here : 0 + n ≡ n = omega arith in
         let alone : cond (test (0 + n)) 1 0 + 0 ≡ cond (test (0 + n)) 1 0 = omega arith in
         alone ∙ ap (λ (x : ℕ). cond (test x) 1 0) here
+
+-- a set of pages below n is what passes below 1,024, where nothing from n on does
+cut_at : (m : ℕ) → m ≡ 1024 → (n : ℕ) (test : ℕ → Bool) → n ≤ m → ((q : ℕ) → n ≤ q → test q ≡ false) → pages_where test ≡ numbers_below n test
+cut_at m e n test few above =
+    let rest : n + (m - n) ≡ m = omega arith in
+    pages_where_is test m e
+    ∙ ap (λ (x : ℕ). numbers_where test 0 x) (sym rest)
+    ∙ numbers_where-add test 0 n (m - n)
+    ∙ ap (λ (r : List ℕ). numbers_where test 0 n ++ r) (numbers_where_none test (0 + n) (m - n) (λ q low high. above q (omega arith)))
+    ∙ append-nil (numbers_where test 0 n)
+
+pub pages_below : (n : ℕ) (test : ℕ → Bool) → n ≤ 1024 → ((q : ℕ) → n ≤ q → test q ≡ false) → pages_where test ≡ numbers_below n test
+pages_below = cut_at 1024 refl

@@ -3,5 +3,7 @@
 #![tactic(auto)]
 
 mod local;
+mod page_sets;
 
 pub use local::{effects_are_local, faults_are_local, parts_begin};
+pub use page_sets::sets_are_page_sets;
