@@ -1,0 +1,6 @@
+use Rattle.std.proofs.Common.{sym, ◌∙◌}
+use Rattle.vfm_device.proofs.Kept.{kept_delivered}
+use Rattle.vfm_bench.proofs.leaves.deliver.Goals as goal
+
+pub returns : goal.returns
+returns c = rw c.deliver.ensures (kept_delivered c.args.desc.now c.args.n c.args.engine.now c.requires (sym c.is_undelivered.ensures ∙ c.if-not-is_undelivered.false))
