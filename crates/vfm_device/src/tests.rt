@@ -423,3 +423,14 @@ fn an_engine_is_its_lists(rt: HostRuntime) -> Result<(), Fail> {
     }
     Ok(())
 }
+
+#[test]
+fn a_staged_engine_stands_in_stop_copy(rt: HostRuntime) -> Result<(), Fail> {
+    let pending = [(3, 0), (5, 1)];
+    let engine = Engine::staged(rt.alloc(), DeviceId(0), (5, 3, 1), &pending, &[7; 64])?;
+    assert_eq!(rt; engine.counts(), (5, 3, 1));
+    assert_eq!(rt; engine.pending(), pending.as_slice());
+    assert_eq!(rt; engine.state(), MigState::StopCopy);
+    assert_eq!(rt; engine.outstanding(0), None);
+    Ok(())
+}
