@@ -1,0 +1,3 @@
+pub mod ByDevice
+pub mod Sets
+pub mod LeadSets
