@@ -22,7 +22,7 @@ abbrev pub trio_failing : Desc
 trio_failing =
     record bare_machine { devices = bare_device ∷ (record second_device { fails = 2 }) ∷ third_device ∷ [] }
 
--- the source's journal there, by the coordinator's order
+-- a source's journal there that the rules allow
 abbrev pub trio_failed : List Entry
 trio_failed =
     Begin ∷ Hold 0 RunningP2p ∷ Hold 1 RunningP2p ∷ Hold 2 RunningP2p ∷ Arc 0 RunningP2p ∷ Arc 1 RunningP2p

@@ -1,15 +1,19 @@
 -- Whether the parts, made entry by entry, allow a journal and are at each of its places what the facts say.
-use Rattle.std.specs.Prelude.{ℕ, ◌==◌, ◌&&◌, not, Bool, true, false, drop, is_none, reverse, take, List, [], ◌∷◌, Option, Some, None}
+use Rattle.std.specs.Prelude.{ℕ, ◌+◌, ◌==◌, ◌&&◌, not, Bool, true, false, drop, is_none, reverse, take, List, [], ◌∷◌, ◌++◌, Option, Some, None}
+use Rattle.std.specs.List.{list_all}
 use Rattle.vfm_types.specs.declared.desc.Desc.{Desc}
 use Rattle.vfm_types.specs.declared.entry.Entry.{Entry}
 use Rattle.vfm_types.specs.declared.state.MigState.{MigState}
 use Rattle.vfm_types.specs.Paths.{same_state}
 use Rattle.vfm_types.specs.Machine.{DeviceState}
 use Rattle.vfm_types.specs.Outstanding.{Outstanding}
-use Rattle.vfm_parts.specs.Parts.{Dev, Lead, World}
+use Rattle.vfm_types.specs.Desc.{device_count}
+use Rattle.vfm_parts.specs.Parts.{Dev, Lead, World, parts_in}
 use Rattle.vfm_parts.specs.PartsOf.{world_of}
 use Rattle.vfm_parts.specs.Start.{first_world}
 use Rattle.vfm_parts.specs.Steps.{fault_on, after_on}
+use Rattle.vfm_cells.specs.Cells.{Cell, lead_cell, device_cell, page_cell, cell_at}
+use Rattle.vfm_cells.specs.Touched.{up_from, touched}
 
 -- two lists have the same items, by a test of two items
 abbrev pub same_list : {X : Type 0} → (X → X → Bool) → List X → List X → Bool
@@ -67,8 +71,28 @@ is_followed_from D past w (entry ∷ entries) =
 abbrev pub is_followed : Desc → List Entry → Bool
 is_followed D journal = is_followed_from D [] (first_world D) journal
 
--- the parts follow so many entries of a journal from a place on, given the facts of what stands before it
-abbrev pub is_followed_between : Desc → List Entry → ℕ → ℕ → Bool
-is_followed_between D journal place count =
-    let past = reverse (take place journal) in
-    is_followed_from D past (world_of D past) (take count (drop place journal))
+-- the same part lies in both
+abbrev pub same_cell : Cell → Cell → Bool
+same_cell (lead_cell a) (lead_cell b) = same_lead a b
+same_cell (device_cell a) (device_cell b) = same_dev a b
+same_cell (page_cell a) (page_cell b) = same_numbers a b
+same_cell a b = false
+
+-- the same parts lie in these cells of two worlds
+abbrev pub same_in : Desc → World → World → List ℕ → Bool
+same_in D a b cells = list_all (λ c. same_cell (cell_at D a c) (cell_at D b c)) cells
+
+-- The same for a machine of large pages, each of which is looked at only after the entries that touch it: what an entry
+-- makes of the facts before it are the facts after it, in the coordinator's cell, in each device's, and in those touched.
+abbrev pub is_followed_by_cells_from : Desc → List Entry → List Entry → Bool
+is_followed_by_cells_from D past [] = true
+is_followed_by_cells_from D past (entry ∷ entries) =
+    let w = world_of D past in
+    is_none (fault_on D w entry)
+    && same_in D (after_on D w entry) (world_of D (entry ∷ past)) (up_from 0 (device_count D + 1) ++ touched D (parts_in w) entry)
+    && is_followed_by_cells_from D (entry ∷ past) entries
+
+-- so many entries of a journal from a place on
+abbrev pub is_followed_by_cells : Desc → List Entry → ℕ → ℕ → Bool
+is_followed_by_cells D journal place count =
+    is_followed_by_cells_from D (reverse (take place journal)) (take count (drop place journal))

@@ -1,7 +1,7 @@
 //! The parts of worked journals, made entry by entry: at each place they are what the facts of the list say, and they
 //! allow the next entry.
 
-ghost use Rattle.std.specs.Prelude.{◌≡◌, ◌++◌, [], ◌∷◌, true, take};
+ghost use Rattle.std.specs.Prelude.{◌≡◌, ◌++◌, [], ◌∷◌, true, length};
 ghost use Rattle.vfm_types.specs.declared.entry.Entry.TheVariants.{Issue, Deliver, Complete, Hold, Arc, Report, Copy, Begin, Joint, Abort};
 ghost use Rattle.vfm_types.specs.declared.state.MigState.TheVariants.{Running, RunningP2p};
 ghost use Rattle.vfm_cases.specs.One.{one, one_write, one_source, one_joined, one_aborted, one_unconnected, one_early, one_marked, one_late, one_failing, one_fails_first, one_fails_second};
@@ -23,7 +23,9 @@ ghost use Rattle.vfm_cases.specs.ThreeFailing.{three_failing, three_failing_run}
 ghost use Rattle.vfm_cases.specs.Mono.{mono, mono_ordered, mono_scattered};
 ghost use Rattle.vfm_cases.specs.Pair.{pair, pair_joined};
 ghost use Rattle.vfm_cases.specs.GivenUp.{given_up_before_begin, given_up_entering, given_up_copying, given_up_reading, given_up_reported, given_up_second_pass, given_up_held, given_up_quiet, given_up_one_stopped, given_up_stopped, given_up_joint, given_up_last_pass, given_up_last_ended};
-ghost use Rattle.vfm_parts_cases.specs.Follows.{is_followed, is_followed_between};
+ghost use Rattle.vfm_parts.specs.PartsOf.{world_of};
+ghost use Rattle.vfm_parts.specs.Start.{first_world};
+ghost use Rattle.vfm_parts_cases.specs.Follows.{is_followed, is_followed_by_cells, same_world};
 
 /// One device with one write: moved, given up, marked within a pass and after a report, and with failing arcs.
 pub fn one_device_is_followed()
@@ -108,8 +110,29 @@ pub fn given_up_moves_are_followed()
     ensures last_ended { is_followed duo given_up_last_ended ≡ true }
 {}
 
-/// Of a journal of some 260 entries over 64 pages of 4,096 bytes, the entry that begins the second pass, given what
-/// stands before it.
-pub fn pair_is_followed()
-    ensures second { is_followed_between pair pair_joined 207 1 ≡ true }
+/// A journal of 232 entries over 64 pages of 4,096 bytes: its first requests, and the pages of the first pass,
+pub fn pair_begins_followed()
+    ensures first { same_world (first_world pair) (world_of pair []) ≡ true }
+    ensures requests { is_followed_by_cells pair pair_joined 0 13 ≡ true }
+    ensures pages { is_followed_by_cells pair pair_joined 13 32 ≡ true }
+    ensures more_pages { is_followed_by_cells pair pair_joined 45 32 ≡ true }
+{}
+
+/// the blocks of its first device,
+pub fn pair_first_blocks_are_followed()
+    ensures blocks { is_followed_by_cells pair pair_joined 77 32 ≡ true }
+    ensures more_blocks { is_followed_by_cells pair pair_joined 109 32 ≡ true }
+{}
+
+/// those of its second,
+pub fn pair_second_blocks_are_followed()
+    ensures blocks { is_followed_by_cells pair pair_joined 141 32 ≡ true }
+    ensures more_blocks { is_followed_by_cells pair pair_joined 173 32 ≡ true }
+{}
+
+/// and all that follows, from the reports for the second pass to the end.
+pub fn pair_ends_followed()
+    ensures source { is_followed_by_cells pair pair_joined 205 20 ≡ true }
+    ensures destination { is_followed_by_cells pair pair_joined 225 7 ≡ true }
+    ensures entries { length pair_joined ≡ 232 }
 {}

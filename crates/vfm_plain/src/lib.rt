@@ -3,6 +3,7 @@
 
 mod device;
 mod laws;
+mod part;
 mod parts;
 mod plain;
 mod sheet;
@@ -13,6 +14,7 @@ pub use laws::{
     bells_stay_zero, doing_keeps_counts, doorbells_change_no_byte, machines_are_sound,
     serial_without_requests, sound_machines_can_lose,
 };
+pub use part::Part;
 pub use plain::{NotEnabled, Plain};
 pub use sheet::{Sheet, added_to, held_bytes, number_of, put_bytes, same_bytes};
 

@@ -7,7 +7,7 @@ ghost use Rattle.vfm_types.specs.Machine.{splice, added};
 use byteorder::{ByteOrder, LittleEndian};
 use std::alloc::Global;
 use std::marker::Model;
-use vfm_types::NoMemory;
+use vfm_types::{Bytes, NoMemory};
 
 /// A run of bytes whose length doesn't change. Seen as the list of them.
 #[derive(Drop)]
@@ -30,6 +30,15 @@ impl Sheet {
     {
         let bytes = vec![in alloc; 0u8; len as usize]?;
         Ok(Sheet { bytes })
+    }
+
+    /// These bytes. Takes no memory.
+    pub fn of(bytes: Bytes) -> Sheet
+        ensures { result ≡ bytes }
+    {
+        Sheet {
+            bytes: bytes.into_list(),
+        }
     }
 
     /// Lends the bytes.

@@ -10,29 +10,12 @@ use crate::MoveLook;
 use vfm_states::next_state;
 use vfm_types::{Desc, DeviceId, Entry, Flags, MigState};
 
-// whether two states are the same
-fn is_same(a: MigState, b: MigState) -> bool
-    ensures { result ≡ same_state a b }
-{
-    a.number() == b.number()
-}
-
-// whether a device in this state makes no DMA
-fn is_stopped(state: MigState) -> bool
-    ensures { result ≡ is_stopped state }
-{
-    matches!(
-        state,
-        MigState::Stop | MigState::StopCopy | MigState::Resuming
-    )
-}
-
 /// Whether device `d` stands in this state.
 pub(crate) fn is_in(look: &MoveLook, d: u8, state: MigState) -> bool
     requires { d < 8 }
     ensures { result ≡ same_state (seen look.now d).state state }
 {
-    is_same(look.device(d).state, state)
+    look.device(d).state.same(state)
 }
 
 /// Whether device `d` starts no new peer-to-peer DMA: it is in a peer-to-peer state, or stopped.
@@ -41,7 +24,7 @@ pub(crate) fn is_quiet(look: &MoveLook, d: u8) -> bool
     ensures { result ≡ (is_p2p (seen look.now d).state || is_stopped (seen look.now d).state) }
 {
     let state = look.device(d).state;
-    matches!(state, MigState::RunningP2p | MigState::PreCopyP2p) || is_stopped(state)
+    state.is_p2p() || state.is_stopped()
 }
 
 /// Whether device `d` has completed what is wanted before the move, or is idle.
@@ -111,8 +94,8 @@ pub(crate) fn may_be_held(desc: &Desc, look: &MoveLook, d: u8, quiet: bool) -> b
 {
     let device = look.device(d);
     let to = next_of(desc, look, d, MigState::StopCopy);
-    let stops = is_same(to, MigState::Stop) || is_same(to, MigState::StopCopy);
-    device.held.is_none() && !is_stopped(device.state) && (!stops || quiet)
+    let stops = to.same(MigState::Stop) || to.same(MigState::StopCopy);
+    device.held.is_none() && !device.state.is_stopped() && (!stops || quiet)
 }
 
 /// The state to which a way is open for device `d`: the one that it is held for, else `STOP_COPY`.

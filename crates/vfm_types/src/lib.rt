@@ -10,6 +10,7 @@ mod job;
 mod lists;
 mod look;
 mod ranges;
+mod running;
 mod state;
 
 pub use bars::Bars;
