@@ -5,7 +5,9 @@ ghost use Rattle.vfm_base.specs.PageSet.{IsPageList, contains_page, least_page_f
 ghost use Rattle.vfm_types.specs.declared.desc.Desc.{Desc};
 ghost use Rattle.vfm_types.specs.Desc.{bar_bytes, device_count, shape_at};
 ghost use Rattle.vfm_types.specs.Outstanding.{is_arrived, is_undelivered};
-ghost use Rattle.vfm_types.specs.Words.{is_nothing};
+ghost use Rattle.vfm_types.specs.Words.{has_barred, is_nothing};
+ghost use Rattle.vfm_parts.specs.Fits.{DevFits};
+ghost use Rattle.vfm_parts_laws.specs.LooksIn.{look_in};
 ghost use Rattle.vfm_types.specs.Valid.{IsValid};
 ghost use Rattle.vfm_parts.specs.Parts.{Dev};
 ghost use Rattle.vfm_parts.specs.PartWords.{is_idle_in};
@@ -25,7 +27,7 @@ use std::marker::Model;
 use vfm_device::Engine;
 use vfm_dirty::DirtyLog;
 use vfm_space::Bar;
-use vfm_types::{Desc, DeviceId, MigState, NoMemory, PageSet};
+use vfm_types::{Desc, DevLook, DeviceId, MigState, NoMemory, PageSet};
 
 /// The part of one device: its engine, its BARs with the marks of their blocks, its dirty log, and whether it was released
 /// by Abort or Resume. Seen as the part of a device.
@@ -92,7 +94,7 @@ impl DevPart {
         })) }
     {
         Ok(DevPart {
-            engine: Engine::staged(alloc, d, counts, pending, buf)?,
+            engine: Engine::staged(alloc, counts, pending, buf)?,
             bar: Bar::holding(alloc, bar)?,
             log: started_log(),
             released: false,
@@ -277,6 +279,48 @@ impl DevPart {
         ensures { result ≡ next_block_in self.now }
     {
         self.bar.unread().or(self.bar.dirty())
+    }
+
+    /// Whether nothing is pending and nothing is on the bus.
+    pub fn is_idle(&self) -> bool
+        ensures { result ≡ is_idle_in self.now }
+    {
+        self.engine.is_idle()
+    }
+
+    /// Whether nothing is on the bus.
+    pub fn is_bus_empty(&self) -> bool
+        ensures { result ≡ is_nothing self.now.requests }
+    {
+        self.engine.is_bus_empty()
+    }
+
+    /// Whether a request of device `d`, whose part this is, is on the bus and barred in the peer-to-peer states.
+    pub fn has_barred(&self, desc: &Desc, d: DeviceId) -> bool
+        requires valid { IsValid desc.now }
+        requires device { d < device_count desc.now }
+        requires fits { DevFits desc.now d self.now }
+        ensures { result ≡ has_barred desc.now d self.now.requests }
+    {
+        self.engine.has_barred(desc, d)
+    }
+
+    #[tactic(auto, using(crate::proofs::Engines::look_same))]
+    /// What can be seen of device `d`, whose part this is.
+    pub fn look(&self, desc: &Desc, d: DeviceId) -> DevLook
+        requires valid { IsValid desc.now }
+        requires device { d < device_count desc.now }
+        requires fits { DevFits desc.now d self.now }
+        ensures { result ≡ look_in desc.now d self.now }
+    {
+        self.engine.look(desc, d, self.may_issue_freely())
+    }
+
+    /// Whether the device may issue at any time: its log is started, or it was released.
+    pub(crate) fn may_issue_freely(&self) -> bool
+        ensures { result ≡ (self.now.logging || self.now.released) }
+    {
+        self.log.is_started() || self.released
     }
 
     /// How many pages are marked in the log.
