@@ -323,6 +323,13 @@ impl DevPart {
         self.log.is_started() || self.released
     }
 
+    /// The pages that are marked in the log.
+    pub fn marks(&self) -> &PageSet
+        ensures { result.now ≡ self.now.marks }
+    {
+        self.log.marks()
+    }
+
     /// How many pages are marked in the log.
     pub fn marked_count(&self) -> u32
         ensures { result ≡ length self.now.marks }

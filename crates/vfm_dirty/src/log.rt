@@ -133,6 +133,13 @@ impl DirtyLog {
         self.marked.clear();
     }
 
+    /// The marked pages.
+    pub fn marks(&self) -> &PageSet
+        ensures { result.now ≡ self.now.marked }
+    {
+        &self.marked
+    }
+
     /// How many pages are marked.
     pub fn count(&self) -> u32
         ensures { result ≡ length self.now.marked }

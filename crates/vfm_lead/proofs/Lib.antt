@@ -1,3 +1,6 @@
 pub mod ByDevice
 pub mod Sets
 pub mod LeadSets
+pub mod Changed
+pub mod Blocks
+pub mod Filled

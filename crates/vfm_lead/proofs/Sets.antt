@@ -19,7 +19,7 @@ beyond n set is q above =
 pub cut : (n : ℕ) (f g : ℕ → Bool) → n ≤ 1024 → ((q : ℕ) → n ≤ q → f q ≡ false) → ((q : ℕ) → f q ≡ g q) → pages_where f ≡ numbers_below n g
 cut n f g few none same = pages_below n f few none ∙ below_same n f g (λ q h. same q)
 
-turned : (a b : ℕ) → (a == b) ≡ (b == a)
+pub turned : (a b : ℕ) → (a == b) ≡ (b == a)
 turned a b =
     ⊎_elim (λ (same : a ≡ b). eq-eqb a b same ∙ sym (eq-eqb b a (sym same)))
     (λ (other : a ≡ b → ⊥). ne_eqb a b other ∙ sym (ne_eqb b a (λ e. other (sym e)))) (cases_eq a b)

@@ -5,8 +5,9 @@ use Rattle.vfm_types.specs.declared.entry.Entry.TheVariants.{Issue, Deliver, Com
 use Rattle.vfm_types.specs.declared.entry.Rule.{Rule}
 use Rattle.vfm_types.specs.declared.desc.Desc.{Desc}
 use Rattle.vfm_types.specs.Desc.{device_count}
+use Rattle.vfm_types.specs.Valid.{IsValid}
 use Rattle.vfm_parts.specs.Parts.{Dev, Lead, Parts, no_dev, listed}
-use Rattle.vfm_parts.specs.Fits.{DevFits}
+use Rattle.vfm_parts.specs.Fits.{DevFits, LeadFits}
 use Rattle.vfm_parts.specs.Steps.{fault_in, lead_after, dev_after}
 
 -- device d of a list
@@ -39,3 +40,9 @@ devs_made D lead devs entry = listed (device_count D) (dev_after D (parts_of lea
 pub record DevsFit (D : Desc) (devs : List Dev) : Type 0 where
   pub count : length devs ≡ device_count D
   pub each : (d : ℕ) → d < device_count D → DevFits D d (dev_of_list devs d)
+
+-- the description is valid, and the coordinator's part and the devices' fit it
+pub record AreSound (D : Desc) (lead : Lead) (devs : List Dev) : Type 0 where
+  pub valid : IsValid D
+  pub lead_fits : LeadFits D lead
+  pub devs_fit : DevsFit D devs

@@ -1,8 +1,17 @@
 //! The coordinator's part of a machine on its move, and the entries that it makes on itself and on the devices.
 #![tactic(auto)]
 
+mod arc_faults;
 mod by_device;
+mod changes;
+mod devices;
+mod faults;
+mod make;
 mod part;
+mod pass_faults;
+mod phase_faults;
+mod step;
 mod words;
 
 pub use part::LeadPart;
+pub use step::{step_copy, step_lead};
