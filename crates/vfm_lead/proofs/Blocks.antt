@@ -1,9 +1,9 @@
 -- What the reading of a block makes of a device, with its sets as code keeps them.
-use Rattle.std.proofs.Common.{◌≡◌, ℕ, ◌+◌, ◌*◌, ◌/◌, ◌<◌, ◌≤◌, ◌==◌, ◌&&◌, not, Bool, List, length, ap, ap₂, sym, ◌∙◌, arith}
+use Rattle.std.proofs.Common.{◌≡◌, ℕ, ◌<◌, ◌≤◌, ◌==◌, ◌&&◌, not, Bool, List, ap, ap₂, ◌∙◌, arith}
 use Rattle.std.proofs.Math.Bool.{and_comm}
 use Rattle.vfm_base.specs.PageSet.{contains_page, pages_where}
 use Rattle.vfm_types.specs.declared.desc.Desc.{Desc}
-use Rattle.vfm_types.specs.Desc.{bar_bytes, block_count, device_count, shape_at}
+use Rattle.vfm_types.specs.Desc.{block_count, device_count, shape_at}
 use Rattle.vfm_types.specs.Valid.{IsValid}
 use Rattle.vfm_parts.specs.Parts.{Dev, numbers_below}
 use Rattle.vfm_parts.specs.Fits.{DevFits, IsSetBelow}

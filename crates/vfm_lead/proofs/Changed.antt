@@ -1,5 +1,5 @@
 -- Devices that are changed one after the other.
-use Rattle.std.proofs.Common.{◌≡◌, ℕ, ◌+◌, ◌<◌, ◌≤◌, ◌⊎◌, inl, inr, List, length, slice_index_or, slice_set, refl, ap, sym, ◌∙◌, arith, ⊎_elim}
+use Rattle.std.proofs.Common.{◌≡◌, ℕ, ◌+◌, ◌<◌, ◌≤◌, List, length, slice_index_or, slice_set, refl, ap, sym, ◌∙◌, arith, ⊎_elim}
 use Rattle.std.proofs.lemmas.Bool.{cases_eq}
 use Rattle.std.proofs.lemmas.List.{get_or-set_same, get_or-set_other, get_or_default, length-set}
 use Rattle.vfm_parts.specs.Parts.{Dev, no_dev, listed}
@@ -24,9 +24,9 @@ one_changed f before now i x y is h made =
     record {
       count = length-set now i y ∙ is.count;
       done = λ k low. ⊎_elim
-      (λ (same : k ≡ i). ap (λ (j : ℕ). dev_of_list (slice_set now i y) j) same ∙ get_or-set_same now i y no_dev h ∙ made
-      ∙ ap f (get_or_default now i x no_dev h ∙ is.rest i (omega arith)) ∙ ap (λ (j : ℕ). f (dev_of_list before j)) (sym same))
-      (λ (other : k ≡ i → ⊥). get_or-set_other now i k y no_dev other ∙ is.done k (omega arith)) (cases_eq k i);
+          (λ (same : k ≡ i). ap (λ (j : ℕ). dev_of_list (slice_set now i y) j) same ∙ get_or-set_same now i y no_dev h ∙ made
+          ∙ ap f (get_or_default now i x no_dev h ∙ is.rest i (omega arith)) ∙ ap (λ (j : ℕ). f (dev_of_list before j)) (sym same))
+          (λ (other : k ≡ i → ⊥). get_or-set_other now i k y no_dev other ∙ is.done k (omega arith)) (cases_eq k i);
       rest = λ k high. get_or-set_other now i k y no_dev (λ e. omega arith) ∙ is.rest k (omega arith);
     }
 

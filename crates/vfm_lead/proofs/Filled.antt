@@ -21,9 +21,9 @@ one_filled n f sizes i x is h made =
     record {
       count = length-set sizes i x ∙ is.count;
       done = λ k low. ⊎_elim
-      (λ (same : k ≡ i). let inside : i < length sizes = by is.count h in
-      ap (λ (j : ℕ). slice_index_or (slice_set sizes i x) j 0) same ∙ get_or-set_same sizes i x 0 inside ∙ made ∙ ap f (sym same))
-      (λ (other : k ≡ i → ⊥). get_or-set_other sizes i k x 0 other ∙ is.done k (omega arith)) (cases_eq k i);
+          (λ (same : k ≡ i). let inside : i < length sizes = by is.count h in
+          ap (λ (j : ℕ). slice_index_or (slice_set sizes i x) j 0) same ∙ get_or-set_same sizes i x 0 inside ∙ made ∙ ap f (sym same))
+          (λ (other : k ≡ i → ⊥). get_or-set_other sizes i k x 0 other ∙ is.done k (omega arith)) (cases_eq k i);
     }
   where
     by : length sizes ≡ n → i < n → i < length sizes

@@ -54,7 +54,13 @@ fn is_quiet_for_hold(desc: &Desc, lead: &LeadPart, devices: &[DevPart], to: MigS
 }
 
 /// The first rule that the hold of device `d` for a state breaks.
-pub fn hold_fault(desc: &Desc, lead: &LeadPart, devices: &[DevPart], d: DeviceId, to: MigState) -> Option<Rule>
+pub fn hold_fault(
+    desc: &Desc,
+    lead: &LeadPart,
+    devices: &[DevPart],
+    d: DeviceId,
+    to: MigState,
+) -> Option<Rule>
     requires sound { AreSound desc.now lead.now devices.now }
     requires device { d < device_count desc.now }
     ensures { result ≡ first_failed (hold_conditions_in desc.now d to lead.now (dev_of_list devices.now)) }
@@ -86,14 +92,24 @@ fn is_hold_for(to: MigState, hold: Option<MigState>) -> bool
 }
 
 // device d, which has PRE_COPY, may enter it: passes are to be made, and none has begun
-fn may_enter_pre_copy(desc: &Desc, lead: &LeadPart, d: DeviceId, to: MigState, device: &DevPart) -> bool
+fn may_enter_pre_copy(
+    desc: &Desc,
+    lead: &LeadPart,
+    d: DeviceId,
+    to: MigState,
+    device: &DevPart,
+) -> bool
     requires { d < device_count desc.now }
     ensures { result ≡ (same_state device.now.state Running && same_state to PreCopy && has_pre_copy (shape_at desc.now d).flags
         && nat_lt 0 desc.now.rounds && lead.now.passes == 0) }
 {
     let flags = desc.devices.at(u32::from(d.0)).flags;
     let running = device.state().same(MigState::Running);
-    running && to.same(MigState::PreCopy) && flags.has_pre_copy() && desc.rounds > 0 && lead.passes() == 0
+    running
+        && to.same(MigState::PreCopy)
+        && flags.has_pre_copy()
+        && desc.rounds > 0
+        && lead.passes() == 0
 }
 
 // a way to this state is open for device d before it stops
@@ -120,7 +136,8 @@ fn is_arc_home(desc: &Desc, d: DeviceId, to: MigState, device: &DevPart) -> bool
     requires { d < device_count desc.now }
     ensures { result ≡ is_arc_home_in desc.now d to device.now }
 {
-    !device.state().same(MigState::Running) && is_next_towards(desc, d, MigState::Running, to, device)
+    !device.state().same(MigState::Running)
+        && is_next_towards(desc, d, MigState::Running, to, device)
 }
 
 // the state is the right one for an arc of device d that succeeds
@@ -144,7 +161,11 @@ fn is_right_fail(desc: &Desc, lead: &LeadPart, d: DeviceId, to: MigState, device
 {
     let fails = desc.devices.at(u32::from(d.0)).fails;
     let open = is_way_open(desc, lead, d, to, device);
-    !lead.aborted() && !lead.resumed() && open && fails > 0 && next_count(device) == u64::from(fails)
+    !lead.aborted()
+        && !lead.resumed()
+        && open
+        && fails > 0
+        && next_count(device) == u64::from(fails)
 }
 
 // from the running group to the peer-to-peer group
@@ -184,7 +205,13 @@ pub fn is_quiet_for_arc(desc: &Desc, devices: &[DevPart], d: DeviceId, to: MigSt
 }
 
 /// The first rule that an arc of device `d` to a state breaks.
-pub fn arc_fault(desc: &Desc, lead: &LeadPart, devices: &[DevPart], d: DeviceId, to: MigState) -> Option<Rule>
+pub fn arc_fault(
+    desc: &Desc,
+    lead: &LeadPart,
+    devices: &[DevPart],
+    d: DeviceId,
+    to: MigState,
+) -> Option<Rule>
     requires sound { AreSound desc.now lead.now devices.now }
     requires device { d < device_count desc.now }
     ensures { result ≡ first_failed (arc_conditions_in desc.now d to lead.now (dev_of_list devices.now)) }
@@ -202,7 +229,13 @@ pub fn arc_fault(desc: &Desc, lead: &LeadPart, devices: &[DevPart], d: DeviceId,
 }
 
 /// The first rule that a failing arc of device `d` to a state breaks.
-pub fn fail_fault(desc: &Desc, lead: &LeadPart, devices: &[DevPart], d: DeviceId, to: MigState) -> Option<Rule>
+pub fn fail_fault(
+    desc: &Desc,
+    lead: &LeadPart,
+    devices: &[DevPart],
+    d: DeviceId,
+    to: MigState,
+) -> Option<Rule>
     requires sound { AreSound desc.now lead.now devices.now }
     requires device { d < device_count desc.now }
     ensures { result ≡ first_failed (fail_conditions_in desc.now d to lead.now (dev_of_list devices.now)) }

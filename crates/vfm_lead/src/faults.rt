@@ -12,13 +12,13 @@ use vfm_device_part::DevPart;
 use vfm_types::{Desc, Entry, Rule};
 
 /// The first rule that the entry breaks.
-pub fn fault(desc: &Desc, lead: &LeadPart, devices: &[DevPart], e: Entry) -> Option<Rule>
+pub fn fault(desc: &Desc, lead: &LeadPart, devices: &[DevPart], e: &Entry) -> Option<Rule>
     requires sound { AreSound desc.now lead.now devices.now }
-    requires entry { IsTrue (is_entry_of desc.now e) }
-    requires kind { is_of_lead e ≡ true }
-    ensures { result ≡ lead_fault desc.now lead.now devices.now e }
+    requires entry { IsTrue (is_entry_of desc.now e.now) }
+    requires kind { is_of_lead e.now ≡ true }
+    ensures { result ≡ lead_fault desc.now lead.now devices.now e.now }
 {
-    match e {
+    match *e {
         Entry::Hold { d, to } => hold_fault(desc, lead, devices, d, to),
         Entry::Arc { d, to } => arc_fault(desc, lead, devices, d, to),
         Entry::Fail { d, to } => fail_fault(desc, lead, devices, d, to),

@@ -9,10 +9,9 @@ ghost use Rattle.vfm_parts.specs.PassStep.{part_size, passed_lead};
 ghost use Rattle.vfm_parts.specs.ReportStep.{reported_lead};
 ghost use Rattle.vfm_lead.specs.LeadSteps.{AreSound, DevsFit, dev_of_list, devs_made, is_of_lead, lead_made};
 
-use crate::LeadPart;
 use crate::by_device::Counts;
-use crate::changes;
 use crate::devices::{count, device};
+use crate::{LeadPart, changes};
 use vfm_device_part::DevPart;
 use vfm_types::{Desc, DeviceId, Entry, MigState};
 
@@ -60,14 +59,14 @@ fn report(desc: &Desc, lead: &mut LeadPart, devices: &[DevPart], d: DeviceId)
     lead.report(desc, d, device(devices, d).marks());
 }
 
-/// What the entry makes of the coordinator's part, which reads the devices as they are before it.
-pub fn make_lead(desc: &Desc, lead: &mut LeadPart, devices: &[DevPart], e: Entry)
+// What the entry makes of the coordinator's part, which reads the devices as they are before it.
+fn make_lead(desc: &Desc, lead: &mut LeadPart, devices: &[DevPart], e: &Entry)
     requires sound { AreSound desc.now lead.old devices.now }
-    requires entry { IsTrue (is_entry_of desc.now e) }
-    requires kind { is_of_lead e ≡ true }
-    ensures { lead.new ≡ lead_made desc.now lead.old devices.now e }
+    requires entry { IsTrue (is_entry_of desc.now e.now) }
+    requires kind { is_of_lead e.now ≡ true }
+    ensures { lead.new ≡ lead_made desc.now lead.old devices.now e.now }
 {
-    match e {
+    match *e {
         Entry::Fail { d: _, to: _ } => lead.fail(),
         Entry::Report { d } => report(desc, lead, devices, d),
         Entry::Pass { k } => begin_pass(desc, lead, devices, k),
@@ -81,15 +80,15 @@ pub fn make_lead(desc: &Desc, lead: &mut LeadPart, devices: &[DevPart], e: Entry
     }
 }
 
-/// What the entry makes of the devices, whatever the coordinator's part is.
-pub fn make_devices(desc: &Desc, devices: &mut [DevPart], e: Entry)
+// What the entry makes of the devices, whatever the coordinator's part is.
+fn make_devices(desc: &Desc, devices: &mut [DevPart], e: &Entry)
     requires valid { IsValid desc.now }
     requires devices { DevsFit desc.now devices.old }
-    requires entry { IsTrue (is_entry_of desc.now e) }
-    requires kind { is_of_lead e ≡ true }
-    ensures { (lead : Lead) → devices.new ≡ devs_made desc.now lead devices.old e }
+    requires entry { IsTrue (is_entry_of desc.now e.now) }
+    requires kind { is_of_lead e.now ≡ true }
+    ensures { (lead : Lead) → devices.new ≡ devs_made desc.now lead devices.old e.now }
 {
-    match e {
+    match *e {
         Entry::Hold { d, to } => changes::hold(devices, d, to),
         Entry::Arc { d, to } => changes::take_arc(devices, d, to),
         Entry::Fail { d, to: _ } => changes::fail_arc(devices, d),
@@ -103,4 +102,16 @@ pub fn make_devices(desc: &Desc, devices: &mut [DevPart], e: Entry)
         Entry::Joint => {}
         _ => unreachable!(),
     }
+}
+
+/// What the entry makes of the coordinator's part and of the devices.
+pub fn make(desc: &Desc, lead: &mut LeadPart, devices: &mut [DevPart], e: &Entry)
+    requires sound { AreSound desc.now lead.old devices.old }
+    requires entry { IsTrue (is_entry_of desc.now e.now) }
+    requires kind { is_of_lead e.now ≡ true }
+    ensures lead { lead.new ≡ lead_made desc.now lead.old devices.old e.now }
+    ensures devices { devices.new ≡ devs_made desc.now lead.old devices.old e.now }
+{
+    make_lead(desc, lead, devices, e);
+    make_devices(desc, devices, e);
 }

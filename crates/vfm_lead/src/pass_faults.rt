@@ -92,7 +92,13 @@ fn is_block(b: u32, next: Option<u32>) -> bool
 }
 
 /// The first rule that the reading of block `b` of device `d` breaks.
-pub fn block_fault(desc: &Desc, lead: &LeadPart, devices: &[DevPart], d: DeviceId, b: u32) -> Option<Rule>
+pub fn block_fault(
+    desc: &Desc,
+    lead: &LeadPart,
+    devices: &[DevPart],
+    d: DeviceId,
+    b: u32,
+) -> Option<Rule>
     requires sound { AreSound desc.now lead.now devices.now }
     requires device { d < device_count desc.now }
     ensures { result ≡ first_failed (block_conditions_in desc.now d b lead.now (dev_of_list devices.now d)) }

@@ -10,7 +10,7 @@ ghost use Rattle.vfm_lead.specs.LeadSteps.{AreSound, devs_made, is_of_lead, lead
 
 use crate::LeadPart;
 use crate::faults::fault;
-use crate::make::{make_devices, make_lead};
+use crate::make::make;
 use crate::pass_faults::copy_fault;
 use vfm_device_part::{DevPart, Guard};
 use vfm_types::{Desc, Entry};
@@ -35,11 +35,10 @@ pub fn step_lead(
     ensures lead_same { OnErr result (lead.new ≡ lead.old) }
     ensures devices_same { OnErr result (devices.new ≡ devices.old) }
 {
-    if let Some(rule) = fault(desc, lead, devices, e) {
+    if let Some(rule) = fault(desc, lead, devices, &e) {
         return Err(Guard(rule));
     }
-    make_lead(desc, lead, devices, e);
-    make_devices(desc, devices, e);
+    make(desc, lead, devices, &e);
     Ok(())
 }
 

@@ -1,5 +1,5 @@
 -- One device that fails the test, or all pass.
-use Rattle.std.proofs.Common.{ℕ, sym, ap, ◌∙◌, arith}
+use Rattle.std.proofs.Common.{sym, ap, ◌∙◌, arith}
 use Rattle.vfm_types.specs.declared.state.MigState.TheVariants.{StopCopy}
 use Rattle.vfm_types.specs.Paths.{same_state}
 use Rattle.vfm_quiet.proofs.AllDevices.{all_pass, one_fails}

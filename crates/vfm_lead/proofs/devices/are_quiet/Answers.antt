@@ -1,5 +1,5 @@
 -- One device that fails the test, or all pass.
-use Rattle.std.proofs.Common.{ℕ, sym, ap, ◌∙◌, arith, ◌||◌}
+use Rattle.std.proofs.Common.{sym, ap, ◌∙◌, arith, ◌||◌}
 use Rattle.vfm_types.specs.Arcs.{is_p2p, is_stopped}
 use Rattle.vfm_quiet.proofs.AllDevices.{all_pass, one_fails}
 use Rattle.vfm_types.specs.Desc.{device_count}

@@ -1,5 +1,5 @@
 -- One device that fails the test, or all pass.
-use Rattle.std.proofs.Common.{ℕ, sym, ap, ◌∙◌, arith, ◌||◌, nat_le}
+use Rattle.std.proofs.Common.{sym, ap, ◌∙◌, arith, ◌||◌, nat_le}
 use Rattle.vfm_parts.specs.PartWords.{is_idle_in}
 use Rattle.vfm_quiet.proofs.AllDevices.{all_pass, one_fails}
 use Rattle.vfm_types.specs.Desc.{device_count}

@@ -1,5 +1,5 @@
 -- One device after the other.
-use Rattle.std.proofs.Common.{◌≡◌, ℕ, ap, ◌∙◌, arith, length}
+use Rattle.std.proofs.Common.{ℕ, ap, ◌∙◌, arith}
 use Rattle.vfm_types.specs.Desc.{device_count}
 use Rattle.vfm_parts.specs.Parts.{listed}
 use Rattle.vfm_parts.specs.PassStep.{part_size}
@@ -16,7 +16,7 @@ pub set-requires : goal.set-requires
 set-requires c = let e = c.loop-d.invariant.count in omega arith
 
 pub loop-d-preserved : goal.loop-d-preserved
-loop-d-preserved c = 
+loop-d-preserved c =
     rw c.set.ensures
     (one_filled (device_count c.args.desc.now) (part_size c.args.desc.now c.args.lead.now (dev_of_list c.args.devices.now)) c.loop-d.sizes c.loop-d.d
     c.part_size.result c.loop-d.invariant (omega arith) c.part_size.ensures)
