@@ -4,3 +4,4 @@ pub mod LeadSets
 pub mod Changed
 pub mod Blocks
 pub mod Filled
+pub mod ShownList

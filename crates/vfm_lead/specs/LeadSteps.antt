@@ -26,6 +26,11 @@ is_of_lead (Complete d n) = false
 is_of_lead (Copy p) = false
 is_of_lead entry = true
 
+-- the entry copies a page
+abbrev pub is_copy : Entry → Bool
+is_copy (Copy p) = true
+is_copy entry = false
+
 -- the first rule that such an entry breaks, and what it makes of the coordinator's part and of the devices
 abbrev pub lead_fault : Desc → Lead → List Dev → Entry → Option Rule
 lead_fault D lead devs entry = fault_in D (parts_of lead devs) entry

@@ -1,6 +1,6 @@
 //! What the coordinator keeps for each device, of which there are at most eight.
 
-ghost use Rattle.std.specs.Prelude.{◌≡◌, ◌<◌, ◌≤◌, true, false, length, slice_index_or, slice_set, nat_lt, IfSome};
+ghost use Rattle.std.specs.Prelude.{ℕ, ◌≡◌, ◌<◌, ◌≤◌, true, false, length, slice_index_or, slice_set, nat_lt, IfSome};
 ghost use Rattle.vfm_base.specs.Least.{all_below, least_below};
 ghost use Rattle.vfm_parts.specs.Parts.{listed};
 
@@ -55,6 +55,14 @@ impl Marks {
             }
         }
         true
+    }
+
+    /// By device, whether it is marked; the places of devices that aren't there may hold anything.
+    #[tactic(auto, using(crate::proofs::ByDevice::item_at))]
+    pub fn each(&self) -> [bool; 8]
+        ensures { (d : ℕ) → d < length self.now → slice_index_or result d false ≡ slice_index_or self.now d false }
+    {
+        self.marks
     }
 
     // how many devices there are

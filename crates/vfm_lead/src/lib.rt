@@ -6,6 +6,7 @@ mod by_device;
 mod changes;
 mod devices;
 mod faults;
+mod look;
 mod make;
 mod part;
 mod pass_faults;
@@ -13,5 +14,6 @@ mod phase_faults;
 mod step;
 mod words;
 
+pub use look::{look_of, looks_show_the_list};
 pub use part::LeadPart;
 pub use step::{step_copy, step_lead};

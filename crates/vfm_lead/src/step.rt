@@ -1,18 +1,19 @@
 //! The coordinator's entries as steps: judged first, and made where they break no rule.
 
-ghost use Rattle.std.specs.Prelude.{◌≡◌, ◌<◌, None, Some, true, IsTrue, MatchResult, OnErr, OnOk};
+ghost use Rattle.std.specs.Prelude.{◌≡◌, ◌<◌, List, None, Some, true, IsTrue, MatchResult, OnErr, OnOk};
 ghost use Rattle.vfm_base.specs.Tests.{first_failed};
 ghost use Rattle.vfm_types.specs.Valid.{IsValid};
 ghost use Rattle.vfm_plain.specs.Legal.{is_entry_of};
+ghost use Rattle.vfm_parts.specs.Parts.{Dev};
 ghost use Rattle.vfm_parts.specs.Fits.{LeadFits};
 ghost use Rattle.vfm_parts.specs.CopyStep.{copied_lead, copy_conditions_in};
-ghost use Rattle.vfm_lead.specs.LeadSteps.{AreSound, devs_made, is_of_lead, lead_fault, lead_made};
+ghost use Rattle.vfm_lead.specs.LeadSteps.{AreSound, devs_made, is_copy, is_of_lead, lead_fault, lead_made};
 
 use crate::LeadPart;
 use crate::faults::fault;
 use crate::make::make;
 use crate::pass_faults::copy_fault;
-use vfm_device_part::{DevPart, Guard};
+use vfm_device_part::{DevPart, Guard, PagePart};
 use vfm_types::{Desc, Entry};
 
 /// Makes an entry of the coordinator on its part and on the devices' parts, all of them, in their order. `Guard` exactly
@@ -42,9 +43,28 @@ pub fn step_lead(
     Ok(())
 }
 
-/// Copies a page of the pass: the coordinator's part alone changes, the page's bytes are what is copied. `Guard` exactly
-/// where a condition is false, with the first rule that is broken; the part is then as before.
-pub fn step_copy(desc: &Desc, lead: &mut LeadPart, p: u32) -> Result<(), Guard>
+/// Makes a Copy on the coordinator's part and the part of its page, whose bytes are what is copied. `Guard` exactly where
+/// a condition is false, with the first rule that is broken; the coordinator's part is then as before.
+///
+/// The devices play no part in it.
+pub fn step_copy(desc: &Desc, lead: &mut LeadPart, _page: &PagePart, e: Entry) -> Result<(), Guard>
+    requires valid { IsValid desc.now }
+    requires fits { LeadFits desc.now lead.old }
+    requires entry { IsTrue (is_entry_of desc.now e) }
+    requires kind { is_copy e ≡ true }
+    ensures guard { (devs : List Dev) → MatchResult result (λ _. lead_fault desc.now lead.old devs e ≡ None)
+        (λ guard. lead_fault desc.now lead.old devs e ≡ Some guard.0) }
+    ensures lead { (devs : List Dev) → OnOk result (lead.new ≡ lead_made desc.now lead.old devs e) }
+    ensures same { OnErr result (lead.new ≡ lead.old) }
+{
+    match e {
+        Entry::Copy { p } => copy(desc, lead, p),
+        _ => unreachable!(),
+    }
+}
+
+// copies page p of the pass
+fn copy(desc: &Desc, lead: &mut LeadPart, p: u32) -> Result<(), Guard>
     requires valid { IsValid desc.now }
     requires fits { LeadFits desc.now lead.old }
     requires page { p < desc.now.pages }
