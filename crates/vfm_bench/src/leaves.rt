@@ -36,8 +36,9 @@ fn round_of_steps(alloc: Global, desc: &Desc) -> Result<u64>
 {
     let mut steps = 0u64;
     for d in 0..desc.devices.len() {
-        let mut engine = engine_of(alloc, desc, DeviceId(d as u8))?;
-        steps = steps.saturating_add(steps_of(desc, &mut engine));
+        let d = DeviceId(d as u8);
+        let mut engine = engine_of(alloc, desc, d)?;
+        steps = steps.saturating_add(steps_of(desc, d, &mut engine));
     }
     Ok(steps)
 }
@@ -46,7 +47,7 @@ fn round_of_steps(alloc: Global, desc: &Desc) -> Result<u64>
 fn engine_of(alloc: Global, desc: &Desc, d: DeviceId) -> Result<Engine>
     requires valid { IsValid desc.now }
     requires device { d < device_count desc.now }
-    ensures { IfOk result (EngineKept desc.now) }
+    ensures { IfOk result (EngineKept desc.now d) }
 {
     let Ok(engine) = Engine::of(alloc, desc, d) else {
         bail!("no memory for an engine");
@@ -55,16 +56,16 @@ fn engine_of(alloc: Global, desc: &Desc, d: DeviceId) -> Result<Engine>
 }
 
 // makes one request of the engine after the other, until none may be issued; answers how many steps these were
-fn steps_of(desc: &Desc, engine: &mut Engine) -> u64
+fn steps_of(desc: &Desc, d: DeviceId, engine: &mut Engine) -> u64
     requires valid { IsValid desc.now }
-    requires kept { EngineKept desc.now engine.old }
+    requires kept { EngineKept desc.now d engine.old }
 {
     let mut steps = 0u64;
     for _ in 0..MOST_REQUESTS {
-        let Some(n) = issue(engine, desc) else {
+        let Some(n) = issue(engine, desc, d) else {
             return steps;
         };
-        if !deliver(engine, desc, n) || !complete(engine, desc, n) {
+        if !deliver(engine, desc, d, n) || !complete(engine, desc, d, n) {
             return steps;
         }
         steps = steps.saturating_add(3);
@@ -73,12 +74,12 @@ fn steps_of(desc: &Desc, engine: &mut Engine) -> u64
 }
 
 // issues the next request, if one may be issued; its number
-fn issue(engine: &mut Engine, desc: &Desc) -> Option<u32>
+fn issue(engine: &mut Engine, desc: &Desc, d: DeviceId) -> Option<u32>
     requires valid { IsValid desc.now }
-    requires kept { EngineKept desc.now engine.old }
-    ensures { EngineKept desc.now engine.new }
+    requires kept { EngineKept desc.now d engine.old }
+    ensures { EngineKept desc.now d engine.new }
 {
-    match engine.may_issue(desc, true) {
+    match engine.may_issue(desc, d, true) {
         Ok(n) if engine.steps().0 < u32::MAX => {
             engine.issue(n);
             Some(n)
@@ -89,9 +90,9 @@ fn issue(engine: &mut Engine, desc: &Desc) -> Option<u32>
 
 // delivers a request that waits for it
 #[tactic(auto, using(vfm_device::proofs::Kept::undelivered_pending))]
-fn deliver(engine: &mut Engine, desc: &Desc, n: u32) -> bool
-    requires { EngineKept desc.now engine.old }
-    ensures { EngineKept desc.now engine.new }
+fn deliver(engine: &mut Engine, desc: &Desc, d: DeviceId, n: u32) -> bool
+    requires { EngineKept desc.now d engine.old }
+    ensures { EngineKept desc.now d engine.new }
 {
     if !engine.is_undelivered(n) {
         return false;
@@ -101,9 +102,9 @@ fn deliver(engine: &mut Engine, desc: &Desc, n: u32) -> bool
 }
 
 // completes a request that was delivered
-fn complete(engine: &mut Engine, desc: &Desc, n: u32) -> bool
-    requires { EngineKept desc.now engine.old }
-    ensures { EngineKept desc.now engine.new }
+fn complete(engine: &mut Engine, desc: &Desc, d: DeviceId, n: u32) -> bool
+    requires { EngineKept desc.now d engine.old }
+    ensures { EngineKept desc.now d engine.new }
 {
     if !engine.is_arrived(n) {
         return false;

@@ -70,50 +70,50 @@ all_completed P n (r ∷ requests) all =
     go false rest = All-cons P r (complete_if true n requests) (All-head P r requests all) rest
 
 -- the four parts of a turn
-turn_of : (D : Desc) (n : ℕ) (begun : Bool) (e : EngineState) → is_next_to_issue_in D e.device n (part_of begun e) ≡ true
-    → HasTurn D e.device n (plain_with [] e) e.requests
-turn_of D n begun e turn =
+turn_of : (D : Desc) (d n : ℕ) (begun : Bool) (e : EngineState) → is_next_to_issue_in D d n (part_of begun e) ≡ true
+    → HasTurn D d n (plain_with [] e) e.requests
+turn_of D d n begun e turn =
     let front = is_exactly n (first_number (unissued e.requests e.pending)) in
-    let room = nat_lt (length e.requests) (shape_at D e.device).window in
-    let last = not (fences D e.device (job_or_zero n e.pending)) || is_nothing e.requests in
-    let all = and_parts (front && room && not (has_fence D e.device e.requests)) last turn in
-    let three = and_parts (front && room) (not (has_fence D e.device e.requests)) all.0 in
+    let room = nat_lt (length e.requests) (shape_at D d).window in
+    let last = not (fences D d (job_or_zero n e.pending)) || is_nothing e.requests in
+    let all = and_parts (front && room && not (has_fence D d e.requests)) last turn in
+    let three = and_parts (front && room) (not (has_fence D d e.requests)) all.0 in
     let two = and_parts front room three.0 in
-    record { first = two.0; room = ltb-true (length e.requests) (shape_at D e.device).window two.1; unfenced = not-true (has_fence D e.device e.requests) three.1; fence = all.1 }
+    record { first = two.0; room = ltb-true (length e.requests) (shape_at D d).window two.1; unfenced = not-true (has_fence D d e.requests) three.1; fence = all.1 }
 
 -- an answer that is exactly a number is that number
 exactly_is : (n : ℕ) (o : Option ℕ) → is_exactly n o ≡ true → o ≡ Some n
 exactly_is n None same = absurd (false≢true same)
 exactly_is n (Some k) same = ap (λ (i : ℕ). let o : Option ℕ = Some i in o) (eqb-true k n same)
 
-pub kept_issued : (D : Desc) (n : ℕ) (begun : Bool) (e : EngineState) → EngineKept D e → is_next_to_issue_in D e.device n (part_of begun e) ≡ true → EngineKept D (with_issued n e)
-kept_issued D n begun e kept turn =
-    let has : HasTurn D e.device n (plain_with [] e) e.requests = turn_of D n begun e turn in
+pub kept_issued : (D : Desc) (d n : ℕ) (begun : Bool) (e : EngineState) → EngineKept D d e → is_next_to_issue_in D d n (part_of begun e) ≡ true → EngineKept D d (with_issued n e)
+kept_issued D d n begun e kept turn =
+    let has : HasTurn D d n (plain_with [] e) e.requests = turn_of D d n begun e turn in
     let listed : is_listed n e.pending ≡ true = unissued_listed n e.requests e.pending (exactly_is n (first_number (unissued e.requests e.pending)) has.first) in
     record {
       device = kept.device;
-      queue = queue_issued D e.device n (plain_with [] e) e.requests kept.queue has;
+      queue = queue_issued D d n (plain_with [] e) e.requests kept.queue has;
       pending = kept.pending;
-      outstanding = All-push (λ (r : Outstanding). r.job < length (shape_at D e.device).jobs) e.requests (record { number = n; job = job_or_zero n e.pending; is_delivered = false })
-          kept.outstanding (job_known (length (shape_at D e.device).jobs) n e.pending kept.pending listed);
+      outstanding = All-push (λ (r : Outstanding). r.job < length (shape_at D d).jobs) e.requests (record { number = n; job = job_or_zero n e.pending; is_delivered = false })
+          kept.outstanding (job_known (length (shape_at D d).jobs) n e.pending kept.pending listed);
     }
 
-pub kept_delivered : (D : Desc) (n : ℕ) (e : EngineState) → EngineKept D e → is_undelivered n e.requests ≡ true → EngineKept D (with_delivered n e)
-kept_delivered D n e kept undelivered =
+pub kept_delivered : (D : Desc) (d n : ℕ) (e : EngineState) → EngineKept D d e → is_undelivered n e.requests ≡ true → EngineKept D d (with_delivered n e)
+kept_delivered D d n e kept undelivered =
     record {
       device = kept.device;
-      queue = queue_taken D e.device n (plain_with [] e) e.requests kept.queue undelivered;
-      pending = all_without (λ (r : ℕ × ℕ). r.1 < length (shape_at D e.device).jobs) n e.pending kept.pending;
-      outstanding = all_delivered (length (shape_at D e.device).jobs) n e.requests kept.outstanding;
+      queue = queue_taken D d n (plain_with [] e) e.requests kept.queue undelivered;
+      pending = all_without (λ (r : ℕ × ℕ). r.1 < length (shape_at D d).jobs) n e.pending kept.pending;
+      outstanding = all_delivered (length (shape_at D d).jobs) n e.requests kept.outstanding;
     }
 
-pub kept_completed : (D : Desc) (n : ℕ) (e : EngineState) → EngineKept D e → is_arrived n e.requests ≡ true → EngineKept D (with_completed n e)
-kept_completed D n e kept arrived =
+pub kept_completed : (D : Desc) (d n : ℕ) (e : EngineState) → EngineKept D d e → is_arrived n e.requests ≡ true → EngineKept D d (with_completed n e)
+kept_completed D d n e kept arrived =
     record {
       device = kept.device;
-      queue = queue_completed D e.device n (plain_with [] e) e.requests kept.queue arrived;
+      queue = queue_completed D d n (plain_with [] e) e.requests kept.queue arrived;
       pending = kept.pending;
-      outstanding = all_completed (λ (r : Outstanding). r.job < length (shape_at D e.device).jobs) n e.requests kept.outstanding;
+      outstanding = all_completed (λ (r : Outstanding). r.job < length (shape_at D d).jobs) n e.requests kept.outstanding;
     }
 
 -- a queue that grows by no request
@@ -128,25 +128,25 @@ same_queue D d before after requests kept pending accepted done =
       budget = λ within. subst (λ (n : ℕ). n ≤ (shape_at D d).budget) (sym accepted) within;
     })
 
-pub kept_rung : (D : Desc) (number : ℕ) (e : EngineState) → EngineKept D e → EngineKept D (with_rung (shape_at D e.device) number e)
-kept_rung D number e kept =
+pub kept_rung : (D : Desc) (d number : ℕ) (e : EngineState) → EngineKept D d e → EngineKept D d (with_rung (shape_at D d) number e)
+kept_rung D d number e kept =
     by_bool (is_accepted shape number e)
-    (λ (b : Bool). EngineKept D (if b
+    (λ (b : Bool). EngineKept D d (if b
     then record e { pending = e.pending ++ (e.accepted, number) ∷ []; accepted = e.accepted + 1 }
     else record e { lost = one_more e.lost }))
     accepted lost
   where
     shape : DevShape
-    shape = shape_at D e.device
+    shape = shape_at D d
 
-    accepted : is_accepted shape number e ≡ true → EngineKept D (record e { pending = e.pending ++ (e.accepted, number) ∷ []; accepted = e.accepted + 1 })
+    accepted : is_accepted shape number e ≡ true → EngineKept D d (record e { pending = e.pending ++ (e.accepted, number) ∷ []; accepted = e.accepted + 1 })
     accepted test =
         let parts = and_parts (nat_lt number (length shape.jobs)) (nat_lt e.accepted shape.budget) test in
         let known : number < length shape.jobs = ltb-true number (length shape.jobs) parts.0 in
         let room : e.accepted < shape.budget = ltb-true e.accepted shape.budget parts.1 in
         record {
           device = kept.device;
-          queue = queue_grown D e.device (plain_with [] e) (plain_with [] (record e { pending = e.pending ++ (e.accepted, number) ∷ []; accepted = e.accepted + 1 })) e.requests kept.queue (record {
+          queue = queue_grown D d (plain_with [] e) (plain_with [] (record e { pending = e.pending ++ (e.accepted, number) ∷ []; accepted = e.accepted + 1 })) e.requests kept.queue (record {
             jobs = number ∷ [];
             pending = refl;
             accepted = refl;
@@ -157,38 +157,35 @@ kept_rung D number e kept =
           outstanding = kept.outstanding;
         }
 
-    lost : is_accepted shape number e ≡ false → EngineKept D (record e { lost = one_more e.lost })
+    lost : is_accepted shape number e ≡ false → EngineKept D d (record e { lost = one_more e.lost })
     lost test =
         record {
           device = kept.device;
-          queue = same_queue D e.device (plain_with [] e) (plain_with [] (record e { lost = one_more e.lost })) e.requests kept.queue refl refl refl;
+          queue = same_queue D d (plain_with [] e) (plain_with [] (record e { lost = one_more e.lost })) e.requests kept.queue refl refl refl;
           pending = kept.pending;
           outstanding = kept.outstanding;
         }
 
 -- what touches neither requests nor queue
-pub kept_same : (D : Desc) (e after : EngineState) → EngineKept D e → after.device ≡ e.device → after.pending ≡ e.pending → after.accepted ≡ e.accepted
-    → after.done ≡ e.done → after.requests ≡ e.requests → EngineKept D after
-kept_same D e after kept device pending accepted done requests =
+pub kept_same : (D : Desc) (d : ℕ) (e after : EngineState) → EngineKept D d e → after.pending ≡ e.pending → after.accepted ≡ e.accepted
+    → after.done ≡ e.done → after.requests ≡ e.requests → EngineKept D d after
+kept_same D d e after kept pending accepted done requests =
     record {
-      device = subst (λ (d : ℕ). d < device_count D) (sym device) kept.device;
-      queue = subst (λ (d : ℕ). QueueKept D d (plain_with [] after) after.requests) (sym device)
-          (subst (QueueKept D e.device (plain_with [] after)) (sym requests)
-          (same_queue D e.device (plain_with [] e) (plain_with [] after) e.requests kept.queue pending accepted done));
-      pending = subst (λ (d : ℕ). All (λ (r : ℕ × ℕ). r.1 < length (shape_at D d).jobs) after.pending) (sym device)
-          (subst (All (λ (r : ℕ × ℕ). r.1 < length (shape_at D e.device).jobs)) (sym pending) kept.pending);
-      outstanding = subst (λ (d : ℕ). All (λ (r : Outstanding). r.job < length (shape_at D d).jobs) after.requests) (sym device)
-          (subst (All (λ (r : Outstanding). r.job < length (shape_at D e.device).jobs)) (sym requests) kept.outstanding);
+      device = kept.device;
+      queue = subst (QueueKept D d (plain_with [] after)) (sym requests)
+          (same_queue D d (plain_with [] e) (plain_with [] after) e.requests kept.queue pending accepted done);
+      pending = subst (All (λ (r : ℕ × ℕ). r.1 < length (shape_at D d).jobs)) (sym pending) kept.pending;
+      outstanding = subst (All (λ (r : Outstanding). r.job < length (shape_at D d).jobs)) (sym requests) kept.outstanding;
     }
 
 -- an engine with nothing on the bus
-start_kept : (D : Desc) (e : EngineState) → e.device < device_count D → e.requests ≡ [] → IsRising 0 e.pending e.accepted
-    → e.accepted ≡ e.done + length e.pending → e.accepted ≤ (shape_at D e.device).budget
-    → All (λ (r : ℕ × ℕ). r.1 < length (shape_at D e.device).jobs) e.pending → EngineKept D e
-start_kept D e device none rising count budget known =
+start_kept : (D : Desc) (d : ℕ) (e : EngineState) → d < device_count D → e.requests ≡ [] → IsRising 0 e.pending e.accepted
+    → e.accepted ≡ e.done + length e.pending → e.accepted ≤ (shape_at D d).budget
+    → All (λ (r : ℕ × ℕ). r.1 < length (shape_at D d).jobs) e.pending → EngineKept D d e
+start_kept D d e device none rising count budget known =
     record {
       device = device;
-      queue = subst (QueueKept D e.device (plain_with [] e)) (sym none) (record {
+      queue = subst (QueueKept D d (plain_with [] e)) (sym none) (record {
         rest = e.pending;
         pending = refl;
         rising = rising;
@@ -200,7 +197,7 @@ start_kept D e device none rising count budget known =
         alone = λ fenced. omega arith;
       });
       pending = known;
-      outstanding = subst (All (λ (r : Outstanding). r.job < length (shape_at D e.device).jobs)) (sym none) (All-nil (λ (r : Outstanding). r.job < length (shape_at D e.device).jobs));
+      outstanding = subst (All (λ (r : Outstanding). r.job < length (shape_at D d).jobs)) (sym none) (All-nil (λ (r : Outstanding). r.job < length (shape_at D d).jobs));
     }
 
 all_numbered : (jobs n : ℕ) (queue : List ℕ) → list_all (λ j. nat_lt j jobs) queue ≡ true → All (λ (r : ℕ × ℕ). r.1 < jobs) (numbered n queue)
@@ -209,21 +206,21 @@ all_numbered jobs n (job ∷ queue) all =
     let parts = and_parts (nat_lt job jobs) (list_all (λ j. nat_lt j jobs) queue) all in
     All-cons (λ (r : ℕ × ℕ). r.1 < jobs) (n, job) (numbered (n + 1) queue) (ltb-true job jobs parts.0) (all_numbered jobs (n + 1) queue parts.1)
 
-pub kept_described : (D : Desc) (d : ℕ) → IsValid D → d < device_count D → EngineKept D (described_engine d (shape_at D d))
+pub kept_described : (D : Desc) (d : ℕ) → IsValid D → d < device_count D → EngineKept D d (described_engine (shape_at D d))
 kept_described D d valid inside =
     let shape = shape_at D d in
     let many : length (numbered 0 shape.queue) ≡ length shape.queue = length_numbered 0 shape.queue in
-    start_kept D (described_engine d shape) inside refl
+    start_kept D d (described_engine shape) inside refl
     (subst (λ (k : ℕ). IsRising 0 (numbered 0 shape.queue) k) (omega arith) (rising_numbered 0 0 shape.queue (omega arith)))
     (omega arith) (valid.in_range.devices d inside).queue_length
     (all_numbered (length shape.jobs) 0 shape.queue (valid.in_range.devices d inside).queue)
 
 pub kept_staged : (D : Desc) (d done lost : ℕ) (pending : List (ℕ × ℕ)) (buf : List ℕ) → d < device_count D → IsRising 0 pending (done + length pending)
     → done + length pending ≤ (shape_at D d).budget → All (λ (r : ℕ × ℕ). r.1 < length (shape_at D d).jobs) pending
-    → EngineKept D (staged_engine d done lost pending buf)
+    → EngineKept D d (staged_engine done lost pending buf)
 kept_staged D d done lost pending buf inside rising budget known =
-    start_kept D (staged_engine d done lost pending buf) inside refl rising refl budget known
+    start_kept D d (staged_engine done lost pending buf) inside refl rising refl budget known
 
-pub undelivered_pending : (D : Desc) (n : ℕ) (e : EngineState) → EngineKept D e → is_undelivered n e.requests ≡ true → is_listed n e.pending ≡ true
-undelivered_pending D n e kept undelivered =
+pub undelivered_pending : (D : Desc) (d n : ℕ) (e : EngineState) → EngineKept D d e → is_undelivered n e.requests ≡ true → is_listed n e.pending ≡ true
+undelivered_pending D d n e kept undelivered =
     ap (is_listed n) kept.queue.pending ∙ listed_front n (waiting e.requests) kept.queue.rest (undelivered_listed n e.requests undelivered)

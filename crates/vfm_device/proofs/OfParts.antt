@@ -11,16 +11,16 @@ use Rattle.vfm_parts.specs.IssueStep.{is_next_to_issue_in, is_request_allowed_in
 use Rattle.vfm_device.specs.EngineState.{EngineState, is_accepted, part_of, plain_with, with_engine, with_rung}
 
 -- whether the log is started or the device was released makes no difference
-pub barred_by_part : (D : Desc) (n : ℕ) (e : EngineState) (dev : Dev)
-    → first_failed (issue_conditions_in D e.device n (with_engine e dev))
-    ≡ first_failed (issue_conditions_in D e.device n (part_of (dev.logging || dev.released) e))
-barred_by_part D n e dev = go dev.logging dev.released
+pub barred_by_part : (D : Desc) (d n : ℕ) (e : EngineState) (dev : Dev)
+    → first_failed (issue_conditions_in D d n (with_engine e dev))
+    ≡ first_failed (issue_conditions_in D d n (part_of (dev.logging || dev.released) e))
+barred_by_part D d n e dev = go dev.logging dev.released
   where
     turn : Bool
-    turn = is_next_to_issue_in D e.device n (part_of true e)
+    turn = is_next_to_issue_in D d n (part_of true e)
 
     allowed : Bool
-    allowed = is_request_allowed_in D e.device n (part_of true e)
+    allowed = is_request_allowed_in D d n (part_of true e)
 
     go : (logging released : Bool)
         → first_failed ((turn, Turn) ∷ (allowed, Barred) ∷ (logging || released || nat_lt e.issues D.begin, Start) ∷ [])

@@ -1,5 +1,5 @@
 -- The requests that a device has on the bus, and where one of them stands among them.
-use Rattle.std.specs.Prelude.{◌≡◌, ℕ, ◌<◌, Bool, false, List, [], ◌∷◌, Option, Some, None, length, slice_index_or, suc, take, zero}
+use Rattle.std.specs.Prelude.{◌≡◌, ℕ, ◌-◌, ◌<◌, ◌==◌, Bool, true, false, not, if◌then◌else◌, List, [], ◌∷◌, Option, Some, None, length, slice_index_or, suc, take, zero}
 use Rattle.vfm_types.specs.Outstanding.{Outstanding, is_outstanding}
 
 -- what stands where no request stands
@@ -17,3 +17,15 @@ abbrev pub outstanding_at : List Outstanding → ℕ → Option (ℕ × Bool)
 outstanding_at [] i = None
 outstanding_at (r ∷ requests) zero = Some (r.number, r.is_delivered)
 outstanding_at (r ∷ requests) (suc i) = outstanding_at requests i
+
+-- both hold or neither does
+abbrev pub is_same_flag : Bool → Bool → Bool
+is_same_flag true b = b
+is_same_flag false b = not b
+
+-- of those of these requests that were delivered, or of those that weren't: the number of the one at place k, from 0
+abbrev pub number_at : Bool → List Outstanding → ℕ → Option ℕ
+number_at delivered [] k = None
+number_at delivered (r ∷ requests) k =
+    if is_same_flag r.is_delivered delivered then (if k == 0 then Some r.number else number_at delivered requests (k - 1))
+    else number_at delivered requests k

@@ -23,11 +23,10 @@ pub record Requests : Type 0 where
   pub accepted : ℕ
   pub done : ℕ
 
--- An engine: the number of its device; the requests that it accepted and hasn't done (number and job, in order), how many
--- it accepted, did and lost, and its buffer; the requests on the bus, in the order of their issue; its state, and what it
--- is held for; how often it issued, completed, and took an arc.
+-- An engine: the requests that it accepted and hasn't done (number and job, in order), how many it accepted, did and lost,
+-- and its buffer; the requests on the bus, in the order of their issue; its state, and what it is held for; how often it
+-- issued, completed, and took an arc. Which device it is of is said where it is asked.
 pub record EngineState : Type 0 where
-  pub device : ℕ
   pub pending : List (ℕ × ℕ)
   pub accepted : ℕ
   pub done : ℕ
@@ -76,11 +75,10 @@ with_engine e dev =
       arcs = e.arcs;
     }
 
--- the engine as device d is described
-abbrev pub described_engine : ℕ → DevShape → EngineState
-described_engine d shape =
+-- the engine of a device as described
+abbrev pub described_engine : DevShape → EngineState
+described_engine shape =
     record {
-      device = d;
       pending = numbered 0 shape.queue;
       accepted = length shape.queue;
       done = 0;
@@ -94,11 +92,10 @@ described_engine d shape =
       arcs = 0;
     }
 
--- the engine of device d in STOP_COPY with these requests done, lost and pending, this buffer, and nothing on the bus
-abbrev pub staged_engine : ℕ → ℕ → ℕ → List (ℕ × ℕ) → List ℕ → EngineState
-staged_engine d done lost pending buf =
+-- an engine in STOP_COPY with these requests done, lost and pending, this buffer, and nothing on the bus
+abbrev pub staged_engine : ℕ → ℕ → List (ℕ × ℕ) → List ℕ → EngineState
+staged_engine done lost pending buf =
     record {
-      device = d;
       pending = pending;
       accepted = done + length pending;
       done = done;
@@ -135,13 +132,13 @@ item_at (request ∷ requests) (suc k) = item_at requests k
 abbrev pub judged : Bool → Bool → Bool → Option Rule
 judged turn allowed start = first_failed ((turn, Turn) ∷ (allowed, Barred) ∷ (start, Start) ∷ [])
 
--- the first rule that bars the next issue; Turn where no request is left to be issued
-abbrev pub barred_by : Desc → Bool → EngineState → Option Rule
-barred_by D begun e = first_failed (issue_conditions_in D e.device (next_or_zero e) (part_of begun e))
+-- the first rule that bars the next issue of device d; Turn where no request is left to be issued
+abbrev pub barred_by : Desc → ℕ → Bool → EngineState → Option Rule
+barred_by D d begun e = first_failed (issue_conditions_in D d (next_or_zero e) (part_of begun e))
 
--- what can be seen of the device
-abbrev pub look_in : Desc → Bool → EngineState → DevLook
-look_in D begun e =
+-- what can be seen of device d
+abbrev pub look_in : Desc → ℕ → Bool → EngineState → DevLook
+look_in D d begun e =
     record {
       state = e.state;
       held = e.hold;
@@ -151,19 +148,19 @@ look_in D begun e =
       issued = e.issues;
       completes = e.completes;
       arcs = e.arcs;
-      blocked = barred_by D begun e;
+      blocked = barred_by D d begun e;
     }
 
--- What an engine keeps beside its value: its queue is in order, and the jobs of its requests are those of its device.
-pub record EngineKept (D : Desc) (e : EngineState) : Type 0 where
-  pub device : e.device < device_count D
-  pub queue : QueueKept D e.device (plain_with [] e) e.requests
-  pub pending : All (λ r. r.1 < length (shape_at D e.device).jobs) e.pending
-  pub outstanding : All (λ r. r.job < length (shape_at D e.device).jobs) e.requests
+-- What the engine of device d keeps beside its value: its queue is in order, and the jobs of its requests are those of d.
+pub record EngineKept (D : Desc) (d : ℕ) (e : EngineState) : Type 0 where
+  pub device : d < device_count D
+  pub queue : QueueKept D d (plain_with [] e) e.requests
+  pub pending : All (λ r. r.1 < length (shape_at D d).jobs) e.pending
+  pub outstanding : All (λ r. r.job < length (shape_at D d).jobs) e.requests
 
 -- the next request: its device has its job, which is the one that stands under its number
-pub record NextIs (D : Desc) (e : EngineState) (r : ℕ × ℕ) : Type 0 where
-  pub known : r.1 < length (shape_at D e.device).jobs
+pub record NextIs (D : Desc) (d : ℕ) (e : EngineState) (r : ℕ × ℕ) : Type 0 where
+  pub known : r.1 < length (shape_at D d).jobs
   pub job : job_or_zero r.0 e.pending ≡ r.1
   pub number : first_number (unissued_in e) ≡ Some r.0
 

@@ -2,14 +2,17 @@
 
 ghost use Rattle.std.specs.Prelude.{◌≡◌, [], ◌∷◌, ◌++◌, ◌+◌, ◌<◌, ◌≤◌, ◌==◌, ◌&&◌, if◌then◌else◌, true, false, length, slice_index_or, take, vec_len, All, IfOk, IfSome, IfNone};
 ghost use Rattle.std.specs.List.{list_any};
-ghost use Rattle.vfm_types.specs.Desc.{no_job};
+ghost use Rattle.vfm_types.specs.Desc.{device_count, no_job, shape_at};
+ghost use Rattle.vfm_types.specs.Valid.{IsValid};
+ghost use Rattle.vfm_types.specs.Words.{has_barred, is_nothing};
 ghost use Rattle.vfm_types.specs.Job.{is_fence};
 ghost use Rattle.vfm_types.specs.Outstanding.{complete_if, deliver_if, delivered_count, is_arrived, is_outstanding, is_undelivered, outstanding_job_or_zero, undelivered_count};
-ghost use Rattle.vfm_device.specs.Bus.{StandsAt, outstanding_at};
+ghost use Rattle.vfm_device.specs.Bus.{StandsAt, is_same_flag, number_at, outstanding_at};
 
+use crate::turn::{is_barred, job_at};
 use std::alloc::Global;
 use std::marker::Model;
-use vfm_types::{Jobs, NoMemory};
+use vfm_types::{Desc, DeviceId, Jobs, NoMemory};
 
 /// The most requests that a device may have on the bus: the widest window.
 const WIDEST_WINDOW: usize = 8;
@@ -64,6 +67,13 @@ impl Bus {
         ensures { result ≡ length self.now }
     {
         self.flights.len()
+    }
+
+    /// Whether nothing is on it.
+    pub fn is_empty(&self) -> bool
+        ensures { result ≡ is_nothing self.now }
+    {
+        self.flights.is_empty()
     }
 
     /// The requests on it, in the order of their issue.
@@ -185,6 +195,14 @@ impl Bus {
         self.flights.len() as u32 - self.undelivered()
     }
 
+    /// The number of the `k`-th of those that were delivered, or of those that weren't, counted from 0 in the order of issue;
+    /// `None` exactly where at most `k` are there.
+    pub fn number_at(&self, delivered: bool, k: u32) -> Option<u32>
+        ensures { result ≡ number_at delivered self.now k }
+    {
+        number_at(&self.flights, delivered, k)
+    }
+
     /// Whether one of its requests is a fence.
     pub fn has_fence(&self, jobs: &Jobs) -> bool
         requires { All (λ r. r.job < length jobs.now) self.now }
@@ -198,6 +216,46 @@ impl Bus {
         }
         false
     }
+
+    /// Whether one of its requests is barred in the peer-to-peer states for device `d`, of which they are.
+    pub fn has_barred(&self, desc: &Desc, d: DeviceId) -> bool
+        requires valid { IsValid desc.now }
+        requires device { d < device_count desc.now }
+        requires known { All (λ r. r.job < length (shape_at desc.now d).jobs) self.now }
+        ensures { result ≡ has_barred desc.now d self.now }
+    {
+        for k in 0..self.flights.len() {
+            let flight = self.flights[k];
+            if is_barred(desc, d, job_at(desc, d, flight.job)) {
+                return true;
+            }
+        }
+        false
+    }
+}
+
+// Of those of these requests that were delivered, or of those that weren't, the number of the one at place `k`.
+fn number_at(flights: &[Flight], delivered: bool, k: u32) -> Option<u32>
+    ensures { result ≡ number_at delivered flights.now k }
+{
+    let mut left = k;
+    for i in 0..flights.len() {
+        let flight = flights[i];
+        if is_same_flag(flight.is_delivered, delivered) {
+            if left == 0 {
+                return Some(flight.number);
+            }
+            left -= 1;
+        }
+    }
+    None
+}
+
+// Whether both hold or neither does.
+fn is_same_flag(one: bool, other: bool) -> bool
+    ensures { result ≡ is_same_flag one other }
+{
+    if one { other } else { !other }
 }
 
 // The place of request `n` among these.

@@ -1,16 +1,17 @@
 //! The engine of one device.
 
 ghost use Rattle.std.specs.Prelude.{◌≡◌, ◌<◌, ◌≤◌, ◌+◌, ◌&&◌, ◌||◌, not, Bool, None, Some, true, length, is_some, nat_lt, IfOk, IfErr, IfSome, MatchResult};
+ghost use Rattle.vfm_base.specs.Tests.{first_failed};
 ghost use Rattle.vfm_types.specs.Desc.{device_count, job_at, shape_at};
 ghost use Rattle.vfm_laws.specs.Queues.{is_listed};
 ghost use Rattle.vfm_plain.specs.IssueRules.{first_number};
 ghost use Rattle.vfm_types.specs.Outstanding.{is_undelivered, is_arrived, is_outstanding};
 ghost use Rattle.vfm_types.specs.Requests.{fences, job_or_zero};
-ghost use Rattle.vfm_types.specs.Words.{has_fence, is_nothing};
-ghost use Rattle.vfm_parts.specs.IssueStep.{is_next_to_issue_in};
+ghost use Rattle.vfm_types.specs.Words.{has_barred, has_fence, is_nothing};
+ghost use Rattle.vfm_parts.specs.IssueStep.{is_next_to_issue_in, issue_conditions_in};
 ghost use Rattle.vfm_parts.specs.PartWords.{is_job_allowed_in};
 ghost use Rattle.vfm_types.specs.Valid.{IsValid};
-ghost use Rattle.vfm_device.specs.Bus.{outstanding_at};
+ghost use Rattle.vfm_device.specs.Bus.{number_at, outstanding_at};
 ghost use Rattle.vfm_device.specs.EngineState.{EngineKept, NextIs, barred_by, described_engine, first_item, is_accepted, job_of_request, look_in, part_of, staged_engine, unissued_in, with_arc, with_completed, with_delivered, with_failed_arc, with_front_put, with_hold, with_issued, with_no_hold, with_resumed, with_rung};
 
 use crate::bus::Bus;
@@ -30,7 +31,6 @@ pub struct Blocked(pub DevLook);
 /// Only `of` and `staged` take memory: there is room for the largest budget and for the widest window.
 #[derive(Drop)]
 pub struct Engine {
-    device: DeviceId,
     queue: Queue,
     lost: u32,
     buf: [u8; 64],
@@ -48,7 +48,6 @@ impl Model for Engine {
     ghost Value = { EngineState };
 
     ghost view = { λ e. record {
-      device = e.device;
       pending = e.queue.pending;
       accepted = e.queue.accepted;
       done = e.queue.done;
@@ -68,11 +67,10 @@ impl Engine {
     pub fn of(alloc: Global, desc: &Desc, d: DeviceId) -> Result<Engine, NoMemory>
         requires valid { IsValid desc.now }
         requires device { d < device_count desc.now }
-        ensures { IfOk result (λ engine. engine ≡ described_engine d (shape_at desc.now d)) }
+        ensures { IfOk result (λ engine. engine ≡ described_engine (shape_at desc.now d)) }
     {
         let shape = desc.devices.at(u32::from(d.0));
         Ok(Engine {
-            device: d,
             queue: Queue::described(alloc, shape.queue.as_slice())?,
             lost: 0,
             buf: [0; 64],
@@ -85,21 +83,19 @@ impl Engine {
         })
     }
 
-    /// The engine of device `d` in `STOP_COPY`, with so many requests accepted, done and lost (`counts`), these pending,
+    /// An engine in `STOP_COPY`, with so many requests accepted, done and lost (`counts`), these pending,
     /// this buffer, and nothing on the bus.
     pub fn staged(
         alloc: Global,
-        d: DeviceId,
         counts: (u32, u32, u32),
         pending: &[(u32, u32)],
         buf: &[u8; 64],
     ) -> Result<Engine, NoMemory>
         requires accepted { counts.0 ≡ counts.1 + length pending.now }
         requires few { counts.0 ≤ 50000 }
-        ensures { IfOk result (λ engine. engine ≡ staged_engine d counts.1 counts.2 pending.now buf.now) }
+        ensures { IfOk result (λ engine. engine ≡ staged_engine counts.1 counts.2 pending.now buf.now) }
     {
         Ok(Engine {
-            device: d,
             queue: Queue::of(alloc, counts.1, pending)?,
             lost: counts.2,
             buf: *buf,
@@ -113,19 +109,19 @@ impl Engine {
     }
 
     // the next request to be issued, if one is left: its number and the number of its job
-    fn next_request(&self, desc: &Desc) -> Option<(u32, u32)>
-        requires kept { EngineKept desc.now self.now }
+    fn next_request(&self, desc: &Desc, d: DeviceId) -> Option<(u32, u32)>
+        requires kept { EngineKept desc.now d self.now }
         requires window { length self.now.requests ≤ 8 }
         ensures value { result ≡ first_item (unissued_in self.now) }
-        ensures next { IfSome result (NextIs desc.now self.now) }
+        ensures next { IfSome result (NextIs desc.now d self.now) }
     {
         let waiting = self.bus.undelivered();
         item_at(self.queue.pending(), waiting as usize)
     }
 
     // how many requests are yet to be issued
-    fn unissued_count(&self, desc: &Desc) -> u32
-        requires kept { EngineKept desc.now self.now }
+    fn unissued_count(&self, desc: &Desc, d: DeviceId) -> u32
+        requires kept { EngineKept desc.now d self.now }
         requires window { length self.now.requests ≤ 8 }
         ensures { result ≡ length (unissued_in self.now) }
     {
@@ -133,28 +129,28 @@ impl Engine {
     }
 
     // whether it is the turn of a request for this job
-    fn has_turn(&self, desc: &Desc, job: u32) -> bool
-        requires kept { EngineKept desc.now self.now }
-        requires job { job < length (shape_at desc.now self.now.device).jobs }
-        ensures { result ≡ (nat_lt (length self.now.requests) (shape_at desc.now self.now.device).window
-            && not (has_fence desc.now self.now.device self.now.requests)
-            && (not (fences desc.now self.now.device job) || is_nothing self.now.requests)) }
+    fn has_turn(&self, desc: &Desc, d: DeviceId, job: u32) -> bool
+        requires kept { EngineKept desc.now d self.now }
+        requires job { job < length (shape_at desc.now d).jobs }
+        ensures { result ≡ (nat_lt (length self.now.requests) (shape_at desc.now d).window
+            && not (has_fence desc.now d self.now.requests)
+            && (not (fences desc.now d job) || is_nothing self.now.requests)) }
     {
-        let shape = shape_at(desc, self.device);
+        let shape = shape_at(desc, d);
         let count = self.bus.len();
         let alone = !shape.jobs.at(job).is_fence() || count == 0;
         count < shape.window as usize && !self.bus.has_fence(&shape.jobs) && alone
     }
 
     // whether a request for this job may be issued at the device's level
-    fn is_allowed(&self, desc: &Desc, job: u32) -> bool
+    fn is_allowed(&self, desc: &Desc, d: DeviceId, job: u32) -> bool
         requires valid { IsValid desc.now }
-        requires kept { EngineKept desc.now self.now }
-        requires job { job < length (shape_at desc.now self.now.device).jobs }
-        ensures { (begun : Bool) → result ≡ is_job_allowed_in desc.now self.now.device (job_at desc.now self.now.device job) (part_of begun self.now) }
+        requires kept { EngineKept desc.now d self.now }
+        requires job { job < length (shape_at desc.now d).jobs }
+        ensures { (begun : Bool) → result ≡ is_job_allowed_in desc.now d (job_at desc.now d job) (part_of begun self.now) }
     {
         let level = self.hold.unwrap_or(self.state);
-        is_allowed(desc, self.device, job_at(desc, self.device, job), level)
+        is_allowed(desc, d, job_at(desc, d, job), level)
     }
 
     // whether it may issue at this time
@@ -165,17 +161,17 @@ impl Engine {
     }
 
     // the first rule that bars the next issue
-    fn barred_by(&self, desc: &Desc, begun: bool) -> Option<Rule>
+    fn barred_by(&self, desc: &Desc, d: DeviceId, begun: bool) -> Option<Rule>
         requires valid { IsValid desc.now }
-        requires kept { EngineKept desc.now self.now }
-        ensures { result ≡ barred_by desc.now begun self.now }
+        requires kept { EngineKept desc.now d self.now }
+        ensures { result ≡ barred_by desc.now d begun self.now }
     {
-        match self.next_request(desc) {
+        match self.next_request(desc, d) {
             Some((_, job)) => {
-                let turn = self.has_turn(desc, job);
+                let turn = self.has_turn(desc, d, job);
                 judged(
                     turn,
-                    self.is_allowed(desc, job),
+                    self.is_allowed(desc, d, job),
                     self.may_start(desc, begun),
                 )
             }
@@ -183,39 +179,51 @@ impl Engine {
         }
     }
 
-    /// What can be seen of the device. `begun` says that Begin, Abort or Resume was made.
-    pub fn look(&self, desc: &Desc, begun: bool) -> DevLook
+    /// The first rule that bars the issue of request `n` of device `d`. `begun` says that Begin, Abort or Resume was made.
+    pub fn issue_fault(&self, desc: &Desc, d: DeviceId, begun: bool, n: u32) -> Option<Rule>
         requires valid { IsValid desc.now }
-        requires kept { EngineKept desc.now self.now }
-        ensures { result ≡ look_in desc.now begun self.now }
+        requires kept { EngineKept desc.now d self.now }
+        ensures { result ≡ first_failed (issue_conditions_in desc.now d n (part_of begun self.now)) }
+    {
+        match self.next_request(desc, d) {
+            Some((number, _)) if number == n => self.barred_by(desc, d, begun),
+            _ => Some(Rule::Turn),
+        }
+    }
+
+    /// What can be seen of the device. `begun` says that Begin, Abort or Resume was made.
+    pub fn look(&self, desc: &Desc, d: DeviceId, begun: bool) -> DevLook
+        requires valid { IsValid desc.now }
+        requires kept { EngineKept desc.now d self.now }
+        ensures { result ≡ look_in desc.now d begun self.now }
     {
         DevLook {
             state: self.state,
             held: self.hold,
-            unissued: self.unissued_count(desc),
+            unissued: self.unissued_count(desc, d),
             undelivered: self.bus.undelivered(),
             delivered: self.bus.delivered(),
             issued: self.issues,
             completes: self.completes,
             arcs: self.arcs,
-            blocked: self.barred_by(desc, begun),
+            blocked: self.barred_by(desc, d, begun),
         }
     }
 
     #[tactic(auto, using(crate::proofs::Turns::turn_of_unbarred))]
     /// The number of the request that may be issued now, exactly where the three conditions of an issue hold; else what
     /// can be seen of the device, with the first rule that is broken. `begun` says that Begin, Abort or Resume was made.
-    pub fn may_issue(&self, desc: &Desc, begun: bool) -> Result<u32, Blocked>
+    pub fn may_issue(&self, desc: &Desc, d: DeviceId, begun: bool) -> Result<u32, Blocked>
         requires valid { IsValid desc.now }
-        requires kept { EngineKept desc.now self.now }
-        ensures cause { MatchResult result (λ _. barred_by desc.now begun self.now ≡ None) (λ _. is_some (barred_by desc.now begun self.now) ≡ true) }
+        requires kept { EngineKept desc.now d self.now }
+        ensures cause { MatchResult result (λ _. barred_by desc.now d begun self.now ≡ None) (λ _. is_some (barred_by desc.now d begun self.now) ≡ true) }
         ensures number { IfOk result (λ n. first_number (unissued_in self.now) ≡ Some n) }
-        ensures turn { IfOk result (λ n. is_next_to_issue_in desc.now self.now.device n (part_of begun self.now) ≡ true) }
-        ensures look { IfErr result (λ blocked. blocked.0 ≡ look_in desc.now begun self.now) }
+        ensures turn { IfOk result (λ n. is_next_to_issue_in desc.now d n (part_of begun self.now) ≡ true) }
+        ensures look { IfErr result (λ blocked. blocked.0 ≡ look_in desc.now d begun self.now) }
     {
-        match self.next_request(desc) {
-            Some((number, _)) if self.barred_by(desc, begun).is_none() => Ok(number),
-            _ => Err(Blocked(self.look(desc, begun))),
+        match self.next_request(desc, d) {
+            Some((number, _)) if self.barred_by(desc, d, begun).is_none() => Ok(number),
+            _ => Err(Blocked(self.look(desc, d, begun))),
         }
     }
 
@@ -268,13 +276,13 @@ impl Engine {
 
     /// Rings the doorbell with a number: the job of that number is accepted, or counted as lost where the device has no
     /// such job or its budget is spent. Answers whether it was accepted. The count of lost ones stands still at 2^32 - 1.
-    pub fn ring(&mut self, desc: &Desc, number: u64) -> bool
+    pub fn ring(&mut self, desc: &Desc, d: DeviceId, number: u64) -> bool
         requires valid { IsValid desc.now }
-        requires device { self.old.device < device_count desc.now }
-        ensures accepted { result ≡ is_accepted (shape_at desc.now self.old.device) number self.old }
-        ensures rung { self.new ≡ with_rung (shape_at desc.now self.old.device) number self.old }
+        requires device { d < device_count desc.now }
+        ensures accepted { result ≡ is_accepted (shape_at desc.now d) number self.old }
+        ensures rung { self.new ≡ with_rung (shape_at desc.now d) number self.old }
     {
-        let shape = shape_at(desc, self.device);
+        let shape = shape_at(desc, d);
         let accepted = number < u64::from(shape.jobs.len()) && self.queue.accepted() < shape.budget;
         if accepted {
             self.queue.accept(number as u32);
@@ -346,6 +354,37 @@ impl Engine {
         ensures { result ≡ outstanding_at self.now.requests i }
     {
         self.bus.at(i as usize)
+    }
+
+    /// Whether nothing is on the bus.
+    pub fn is_bus_empty(&self) -> bool
+        ensures { result ≡ is_nothing self.now.requests }
+    {
+        self.bus.is_empty()
+    }
+
+    /// Whether nothing is pending and nothing is on the bus.
+    pub fn is_idle(&self) -> bool
+        ensures { result ≡ (is_nothing self.now.pending && is_nothing self.now.requests) }
+    {
+        self.queue.count() == 0 && self.bus.is_empty()
+    }
+
+    /// Whether a request is on the bus that is barred in the peer-to-peer states; of device `d`.
+    pub fn has_barred(&self, desc: &Desc, d: DeviceId) -> bool
+        requires valid { IsValid desc.now }
+        requires kept { EngineKept desc.now d self.now }
+        ensures { result ≡ has_barred desc.now d self.now.requests }
+    {
+        self.bus.has_barred(desc, d)
+    }
+
+    /// The number of the `k`-th of the requests on the bus that were delivered, or of those that weren't, counted from 0 in
+    /// the order of issue; `None` exactly where at most `k` are there.
+    pub fn number_at(&self, delivered: bool, k: u32) -> Option<u32>
+        ensures { result ≡ number_at delivered self.now.requests k }
+    {
+        self.bus.number_at(delivered, k)
     }
 
     /// Whether request `n` is on the bus and waits for its delivery.

@@ -22,34 +22,34 @@ ghost use Rattle.vfm_device.specs.EngineState.{EngineKept, EngineState, describe
 
 /// What an engine keeps beside its value it has at the start, as described and as staged.
 pub fn engines_start_in_order()
-    ensures described { (D : Desc) (d : ℕ) → IsValid D → d < device_count D → EngineKept D (described_engine d (shape_at D d)) }
+    ensures described { (D : Desc) (d : ℕ) → IsValid D → d < device_count D → EngineKept D d (described_engine (shape_at D d)) }
     ensures staged { (D : Desc) (d done lost : ℕ) (pending : List (ℕ × ℕ)) (buf : List ℕ) → d < device_count D
         → IsRising 0 pending (done + length pending) → done + length pending ≤ (shape_at D d).budget
-        → All (λ r. r.1 < length (shape_at D d).jobs) pending → EngineKept D (staged_engine d done lost pending buf) }
+        → All (λ r. r.1 < length (shape_at D d).jobs) pending → EngineKept D d (staged_engine done lost pending buf) }
 {}
 
 /// It keeps it through every step that is allowed.
 pub fn engines_stay_in_order()
-    ensures issued { (D : Desc) (n : ℕ) (begun : Bool) (e : EngineState) → EngineKept D e
-        → is_next_to_issue_in D e.device n (part_of begun e) ≡ true → EngineKept D (with_issued n e) }
-    ensures delivered { (D : Desc) (n : ℕ) (e : EngineState) → EngineKept D e
-        → is_undelivered n e.requests ≡ true → EngineKept D (with_delivered n e) }
-    ensures completed { (D : Desc) (n : ℕ) (e : EngineState) → EngineKept D e
-        → is_arrived n e.requests ≡ true → EngineKept D (with_completed n e) }
-    ensures rung { (D : Desc) (number : ℕ) (e : EngineState) → EngineKept D e → EngineKept D (with_rung (shape_at D e.device) number e) }
-    ensures front { (D : Desc) (bytes : List ℕ) (e : EngineState) → EngineKept D e → EngineKept D (with_front_put bytes e) }
-    ensures held { (D : Desc) (to : MigState) (e : EngineState) → EngineKept D e → EngineKept D (with_hold to e) }
-    ensures moved { (D : Desc) (to : MigState) (e : EngineState) → EngineKept D e → EngineKept D (with_arc to e) }
-    ensures failed { (D : Desc) (e : EngineState) → EngineKept D e → EngineKept D (with_failed_arc e) }
-    ensures released { (D : Desc) (e : EngineState) → EngineKept D e → EngineKept D (with_no_hold e) }
-    ensures resumed { (D : Desc) (e : EngineState) → EngineKept D e → EngineKept D (with_resumed e) }
+    ensures issued { (D : Desc) (d n : ℕ) (begun : Bool) (e : EngineState) → EngineKept D d e
+        → is_next_to_issue_in D d n (part_of begun e) ≡ true → EngineKept D d (with_issued n e) }
+    ensures delivered { (D : Desc) (d n : ℕ) (e : EngineState) → EngineKept D d e
+        → is_undelivered n e.requests ≡ true → EngineKept D d (with_delivered n e) }
+    ensures completed { (D : Desc) (d n : ℕ) (e : EngineState) → EngineKept D d e
+        → is_arrived n e.requests ≡ true → EngineKept D d (with_completed n e) }
+    ensures rung { (D : Desc) (d number : ℕ) (e : EngineState) → EngineKept D d e → EngineKept D d (with_rung (shape_at D d) number e) }
+    ensures front { (D : Desc) (d : ℕ) (bytes : List ℕ) (e : EngineState) → EngineKept D d e → EngineKept D d (with_front_put bytes e) }
+    ensures held { (D : Desc) (d : ℕ) (to : MigState) (e : EngineState) → EngineKept D d e → EngineKept D d (with_hold to e) }
+    ensures moved { (D : Desc) (d : ℕ) (to : MigState) (e : EngineState) → EngineKept D d e → EngineKept D d (with_arc to e) }
+    ensures failed { (D : Desc) (d : ℕ) (e : EngineState) → EngineKept D d e → EngineKept D d (with_failed_arc e) }
+    ensures released { (D : Desc) (d : ℕ) (e : EngineState) → EngineKept D d e → EngineKept D d (with_no_hold e) }
+    ensures resumed { (D : Desc) (d : ℕ) (e : EngineState) → EngineKept D d e → EngineKept D d (with_resumed e) }
 {}
 
 /// Each step of an engine is what the entry makes of the device's part, as far as the engine goes.
 pub fn engine_steps_are_part_steps()
-    ensures barred { (D : Desc) (n : ℕ) (e : EngineState) (dev : Dev)
-        → first_failed (issue_conditions_in D e.device n (with_engine e dev))
-        ≡ first_failed (issue_conditions_in D e.device n (part_of (dev.logging || dev.released) e)) }
+    ensures barred { (D : Desc) (d n : ℕ) (e : EngineState) (dev : Dev)
+        → first_failed (issue_conditions_in D d n (with_engine e dev))
+        ≡ first_failed (issue_conditions_in D d n (part_of (dev.logging || dev.released) e)) }
     ensures issued { (n : ℕ) (e : EngineState) (dev : Dev) → issued_dev n (with_engine e dev) ≡ with_engine (with_issued n e) dev }
     ensures delivered { (D : Desc) (d n : ℕ) (target : List ℕ) (e : EngineState) (dev : Dev)
         → delivered_dev D d n target (with_engine e dev)
@@ -71,5 +71,5 @@ pub fn engine_steps_are_part_steps()
 
 /// A request that waits for its delivery is among the pending ones.
 pub fn undelivered_requests_are_pending()
-    ensures { (D : Desc) (n : ℕ) (e : EngineState) → EngineKept D e → is_undelivered n e.requests ≡ true → is_listed n e.pending ≡ true }
+    ensures { (D : Desc) (d n : ℕ) (e : EngineState) → EngineKept D d e → is_undelivered n e.requests ≡ true → is_listed n e.pending ≡ true }
 {}

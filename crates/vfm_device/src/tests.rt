@@ -56,7 +56,7 @@ fn machine(
 // The engine of the first device.
 fn engine_of(alloc: Global, desc: &Desc) -> Result<Engine, Fail>
     requires { IsValid desc.now }
-    ensures { IfOk result (EngineKept desc.now) }
+    ensures { IfOk result (EngineKept desc.now 0) }
 {
     Ok(Engine::of(alloc, desc, DeviceId(0))?)
 }
@@ -70,10 +70,10 @@ fn write(byte: u8) -> Result<Job, Fail> {
 // Issues the next request, if one may be issued; its number.
 fn issue(engine: &mut Engine, desc: &Desc, begun: bool) -> Option<u32>
     requires valid { IsValid desc.now }
-    requires kept { EngineKept desc.now engine.old }
-    ensures { EngineKept desc.now engine.new }
+    requires kept { EngineKept desc.now 0 engine.old }
+    ensures { EngineKept desc.now 0 engine.new }
 {
-    match engine.may_issue(desc, begun) {
+    match engine.may_issue(desc, DeviceId(0), begun) {
         Ok(n) if engine.steps().0 < u32::MAX => {
             engine.issue(n);
             Some(n)
@@ -85,8 +85,8 @@ fn issue(engine: &mut Engine, desc: &Desc, begun: bool) -> Option<u32>
 // Delivers a request that waits for it.
 #[tactic(auto, using(crate::proofs::Kept::undelivered_pending))]
 fn deliver(engine: &mut Engine, desc: &Desc, n: u32) -> bool
-    requires { EngineKept desc.now engine.old }
-    ensures { EngineKept desc.now engine.new }
+    requires { EngineKept desc.now 0 engine.old }
+    ensures { EngineKept desc.now 0 engine.new }
 {
     if !engine.is_undelivered(n) {
         return false;
@@ -97,8 +97,8 @@ fn deliver(engine: &mut Engine, desc: &Desc, n: u32) -> bool
 
 // Completes a request that was delivered.
 fn complete(engine: &mut Engine, desc: &Desc, n: u32) -> bool
-    requires { EngineKept desc.now engine.old }
-    ensures { EngineKept desc.now engine.new }
+    requires { EngineKept desc.now 0 engine.old }
+    ensures { EngineKept desc.now 0 engine.new }
 {
     if !engine.is_arrived(n) {
         return false;
@@ -114,10 +114,10 @@ fn complete(engine: &mut Engine, desc: &Desc, n: u32) -> bool
 #[tactic(auto, using(crate::proofs::Kept::kept_rung))]
 fn ring(engine: &mut Engine, desc: &Desc, number: u64) -> bool
     requires valid { IsValid desc.now }
-    requires kept { EngineKept desc.now engine.old }
-    ensures { EngineKept desc.now engine.new }
+    requires kept { EngineKept desc.now 0 engine.old }
+    ensures { EngineKept desc.now 0 engine.new }
 {
-    engine.ring(desc, number)
+    engine.ring(desc, DeviceId(0), number)
 }
 
 // What is tried, and what must come of it.
@@ -139,12 +139,12 @@ enum Try {
 #[tactic(auto, using(crate::proofs::Kept::kept_same))]
 fn comes_so(engine: &mut Engine, desc: &Desc, begun: bool, tried: &Try) -> bool
     requires valid { IsValid desc.now }
-    requires kept { EngineKept desc.now engine.old }
-    ensures { EngineKept desc.now engine.new }
+    requires kept { EngineKept desc.now 0 engine.old }
+    ensures { EngineKept desc.now 0 engine.new }
 {
     match tried {
         Try::Issued(n) => issue(engine, desc, begun) == Some(*n),
-        Try::Barred(rule) => engine.look(desc, begun).blocked == Some(*rule),
+        Try::Barred(rule) => engine.look(desc, DeviceId(0), begun).blocked == Some(*rule),
         Try::Delivered(n) => deliver(engine, desc, *n),
         Try::Completed(n) => complete(engine, desc, *n),
         Try::Rung(number, accepted) => ring(engine, desc, *number) == *accepted,
@@ -156,8 +156,8 @@ fn comes_so(engine: &mut Engine, desc: &Desc, begun: bool, tried: &Try) -> bool
 // Holds the device.
 #[tactic(auto, using(crate::proofs::Kept::kept_same))]
 fn hold(engine: &mut Engine, desc: &Desc, to: MigState) -> bool
-    requires { EngineKept desc.now engine.old }
-    ensures { EngineKept desc.now engine.new }
+    requires { EngineKept desc.now 0 engine.old }
+    ensures { EngineKept desc.now 0 engine.new }
 {
     engine.hold(to);
     engine.held() == Some(to)
@@ -166,8 +166,8 @@ fn hold(engine: &mut Engine, desc: &Desc, to: MigState) -> bool
 // Takes an arc.
 #[tactic(auto, using(crate::proofs::Kept::kept_same))]
 fn take_arc(engine: &mut Engine, desc: &Desc, to: MigState) -> bool
-    requires { EngineKept desc.now engine.old }
-    ensures { EngineKept desc.now engine.new }
+    requires { EngineKept desc.now 0 engine.old }
+    ensures { EngineKept desc.now 0 engine.new }
 {
     engine.arc(to);
     engine.state() == to && engine.held().is_none()
@@ -176,8 +176,8 @@ fn take_arc(engine: &mut Engine, desc: &Desc, to: MigState) -> bool
 // The first of these tries that doesn't come so.
 fn first_other(engine: &mut Engine, desc: &Desc, begun: bool, tries: &[Try]) -> Option<usize>
     requires valid { IsValid desc.now }
-    requires kept { EngineKept desc.now engine.old }
-    ensures { EngineKept desc.now engine.new }
+    requires kept { EngineKept desc.now 0 engine.old }
+    ensures { EngineKept desc.now 0 engine.new }
 {
     for (i, tried) in tries.iter().enumerate() {
         if !comes_so(engine, desc, begun, tried) {
@@ -328,8 +328,8 @@ impl Lists {
 // Whether the lists say the same of an issue.
 fn is_same_issue(engine: &mut Engine, desc: &Desc, lists: &mut Lists) -> Result<bool, Fail>
     requires valid { IsValid desc.now }
-    requires kept { EngineKept desc.now engine.old }
-    ensures { EngineKept desc.now engine.new }
+    requires kept { EngineKept desc.now 0 engine.old }
+    ensures { EngineKept desc.now 0 engine.new }
 {
     let next = lists.next();
     if let Some(n) = next {
@@ -340,8 +340,8 @@ fn is_same_issue(engine: &mut Engine, desc: &Desc, lists: &mut Lists) -> Result<
 
 // Whether they say the same of a delivery.
 fn is_same_delivery(engine: &mut Engine, desc: &Desc, lists: &mut Lists, n: u32) -> bool
-    requires { EngineKept desc.now engine.old }
-    ensures { EngineKept desc.now engine.new }
+    requires { EngineKept desc.now 0 engine.old }
+    ensures { EngineKept desc.now 0 engine.new }
 {
     let waits = lists.is_there(n, false);
     if waits {
@@ -352,8 +352,8 @@ fn is_same_delivery(engine: &mut Engine, desc: &Desc, lists: &mut Lists, n: u32)
 
 // Whether they say the same of a completion.
 fn is_same_completion(engine: &mut Engine, desc: &Desc, lists: &mut Lists, n: u32) -> bool
-    requires { EngineKept desc.now engine.old }
-    ensures { EngineKept desc.now engine.new }
+    requires { EngineKept desc.now 0 engine.old }
+    ensures { EngineKept desc.now 0 engine.new }
 {
     let arrived = lists.is_there(n, true);
     if arrived {
@@ -370,8 +370,8 @@ fn is_same_ring(
     number: u32,
 ) -> Result<bool, Fail>
     requires valid { IsValid desc.now }
-    requires kept { EngineKept desc.now engine.old }
-    ensures { EngineKept desc.now engine.new }
+    requires kept { EngineKept desc.now 0 engine.old }
+    ensures { EngineKept desc.now 0 engine.new }
 {
     let accepted = lists.ring(number)?;
     Ok(ring(engine, desc, u64::from(number)) == accepted)
@@ -385,8 +385,8 @@ fn is_same_step(
     draw: u64,
 ) -> Result<bool, Fail>
     requires valid { IsValid desc.now }
-    requires kept { EngineKept desc.now engine.old }
-    ensures { EngineKept desc.now engine.new }
+    requires kept { EngineKept desc.now 0 engine.old }
+    ensures { EngineKept desc.now 0 engine.new }
 {
     let n = (draw / 4 % 6) as u32;
     match draw % 4 {
@@ -427,7 +427,7 @@ fn an_engine_is_its_lists(rt: HostRuntime) -> Result<(), Fail> {
 #[test]
 fn a_staged_engine_stands_in_stop_copy(rt: HostRuntime) -> Result<(), Fail> {
     let pending = [(3, 0), (5, 1)];
-    let engine = Engine::staged(rt.alloc(), DeviceId(0), (5, 3, 1), &pending, &[7; 64])?;
+    let engine = Engine::staged(rt.alloc(), (5, 3, 1), &pending, &[7; 64])?;
     assert_eq!(rt; engine.counts(), (5, 3, 1));
     assert_eq!(rt; engine.pending(), pending.as_slice());
     assert_eq!(rt; engine.state(), MigState::StopCopy);

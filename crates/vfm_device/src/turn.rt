@@ -55,7 +55,7 @@ fn is_p2p(state: MigState) -> bool
 }
 
 /// Whether a job of a device is barred in the peer-to-peer states: aimed at a BAR, or of a device that can't tell.
-fn is_barred(desc: &Desc, d: DeviceId, job: &Job) -> bool
+pub fn is_barred(desc: &Desc, d: DeviceId, job: &Job) -> bool
     requires in_range { InRange desc.now }
     requires device { d < device_count desc.now }
     requires job { IsTrue (is_job_in_range job.now) }

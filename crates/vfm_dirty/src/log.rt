@@ -63,9 +63,16 @@ impl DirtyLog {
         if self.started {
             return Err(AlreadyStarted);
         }
+        self.restart();
+        Ok(())
+    }
+
+    /// Starts the log, or starts it anew: no page is marked.
+    pub fn restart(&mut self)
+        ensures { self.new ≡ record { started = true; marked = [] } }
+    {
         self.started = true;
         self.marked.clear();
-        Ok(())
     }
 
     /// Marks page `p`, which is below 1,024. A log that isn't started stays as it is.
@@ -90,10 +97,19 @@ impl DirtyLog {
         if !self.started {
             return Err(NotStarted);
         }
-        into.join(&self.marked);
         let count = self.marked.len();
-        self.marked.clear();
+        self.take_marks(into);
         Ok(count)
+    }
+
+    /// Adds the marked pages to `into` and clears them, whether or not the log is started.
+    pub fn take_marks(&mut self, into: &mut PageSet)
+        ensures given { into.new ≡ pages_where (λ q. contains_page into.old q || contains_page self.old.marked q) }
+        ensures set { IsPageList into.new }
+        ensures cleared { self.new ≡ record self.old { marked = [] } }
+    {
+        into.join(&self.marked);
+        self.marked.clear();
     }
 
     /// Stops the log and clears its marks. `NotStarted` exactly where it isn't started; it then stays as it was.
@@ -105,8 +121,29 @@ impl DirtyLog {
         if !self.started {
             return Err(NotStarted);
         }
+        self.reset();
+        Ok(())
+    }
+
+    /// Stops the log, if it is started, and clears its marks.
+    pub fn reset(&mut self)
+        ensures { self.new ≡ empty_log }
+    {
         self.started = false;
         self.marked.clear();
-        Ok(())
+    }
+
+    /// The marked pages.
+    pub fn marks(&self) -> &PageSet
+        ensures { result.now ≡ self.now.marked }
+    {
+        &self.marked
+    }
+
+    /// How many pages are marked.
+    pub fn count(&self) -> u32
+        ensures { result ≡ length self.now.marked }
+    {
+        self.marked.len()
     }
 }

@@ -2,7 +2,7 @@
 
 ghost use Rattle.std.specs.Prelude.{◌≡◌, ◌+◌, ◌*◌, ◌/◌, ◌%◌, ◌<◌, ◌≤◌, ◌&&◌, ◌||◌, not, [], length, take, drop, IfOk, IfSome};
 ghost use Rattle.vfm_base.specs.PageSet.{IsPageList, contains_page, least_page_from, pages_where};
-ghost use Rattle.vfm_space.specs.Blocks.{touches_block, new_blocks, after_put, with_written, rung_number, bytes_of_block, with_read};
+ghost use Rattle.vfm_space.specs.Blocks.{touches_block, new_blocks, after_put, unread_blocks, with_bytes_set, with_marks, with_written, rung_number, bytes_of_block, with_read};
 
 use std::alloc::Global;
 use std::marker::Model;
@@ -46,6 +46,17 @@ impl Bar {
         })
     }
 
+    /// These bytes, a multiple of 64 and at most 65,536 of them, every block unread.
+    pub fn holding(alloc: Global, bytes: &[u8]) -> Result<Bar, NoMemory>
+        requires blocks { length bytes.now % 64 ≡ 0 }
+        requires most { length bytes.now ≤ 65536 }
+        ensures { IfOk result (λ bar. bar ≡ unread_blocks bytes.now) }
+    {
+        let mut bar = Bar::of(alloc, bytes.len() as u32)?;
+        bar.set(0, bytes);
+        Ok(bar)
+    }
+
     /// Lends the bytes.
     pub fn bytes(&self) -> &[u8]
         ensures { result.now ≡ self.now.bytes }
@@ -73,7 +84,23 @@ impl Bar {
         ensures { self.new ≡ with_written offset bytes.now self.old }
     {
         self.bytes.put(offset, bytes);
-        mark_touched(&mut self.dirty, &self.unread, offset, bytes.len() as u32);
+        self.mark(offset, bytes.len() as u32);
+    }
+
+    /// Writes these bytes at an offset and marks nothing.
+    pub fn set(&mut self, offset: u32, bytes: &[u8])
+        requires { offset + length bytes.now ≤ length self.old.bytes }
+        ensures { self.new ≡ with_bytes_set offset bytes.now self.old }
+    {
+        self.bytes.put(offset, bytes);
+    }
+
+    /// Marks the blocks that the `len` bytes from an offset touch as written.
+    pub fn mark(&mut self, offset: u32, len: u32)
+        requires { offset + len ≤ length self.old.bytes }
+        ensures { self.new ≡ with_marks offset len self.old }
+    {
+        mark_touched(&mut self.dirty, &self.unread, offset, len);
     }
 
     /// Copies the bytes from an offset on, as many as `into` takes.
@@ -121,7 +148,25 @@ impl Bar {
         ensures given { into.new ≡ bytes_of_block b self.old }
         ensures read { self.new ≡ with_read b self.old }
     {
-        self.get(64 * b, into);
+        into.copy_from_slice(self.block(b));
+        self.unmark(b);
+    }
+
+    /// Lends the 64 bytes of block `b`.
+    pub fn block(&self, b: u32) -> &[u8]
+        requires { 64 * (b + 1) ≤ length self.now.bytes }
+        ensures value { result.now ≡ bytes_of_block b self.now }
+        ensures count { length result.now ≡ 64 }
+    {
+        let start = 64 * b as usize;
+        &self.bytes.bytes()[start..start + 64]
+    }
+
+    /// Takes the marks of block `b` away, as it is read.
+    pub fn unmark(&mut self, b: u32)
+        requires { 64 * (b + 1) ≤ length self.old.bytes }
+        ensures { self.new ≡ with_read b self.old }
+    {
         self.unread.remove(b);
         self.dirty.remove(b);
     }

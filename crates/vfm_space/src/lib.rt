@@ -3,9 +3,11 @@
 #![tactic(auto)]
 
 mod bar;
+mod laws;
 mod memory;
 
 pub use bar::Bar;
+pub use laws::bar_steps_are_part_steps;
 pub use memory::Memory;
 
 #[cfg(test)]

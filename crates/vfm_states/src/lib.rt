@@ -8,7 +8,7 @@ mod walk;
 
 pub use laws::{interiors, paths_end, single_arcs, stops_through_p2p, supported_only};
 pub use route::Route;
-pub use walk::{next_state, path};
+pub use walk::{next_state, next_towards, path};
 
 #[cfg(test)]
 mod tests;

@@ -44,6 +44,14 @@ pub fn path(from: MigState, to: MigState, flags: Flags) -> Result<Route, PathFau
     Ok(route)
 }
 
+/// The next state towards another, past a state that the device lacks; the state itself where the table refuses the way.
+/// Unlike `next_state` it doesn't ask whether there is a path.
+pub fn next_towards(from: MigState, to: MigState, flags: Flags) -> MigState
+    ensures { result ≡ next_towards from to flags }
+{
+    walked(from, to, flags)
+}
+
 // Why there is no path, by the first cause that stands.
 fn refusal(from: MigState, to: MigState, flags: Flags) -> Option<PathFault>
     ensures value { result ≡ path_refusal from to flags }

@@ -16,19 +16,19 @@ pub returns-clause-rung : goal.returns-clause-rung
 returns-clause-rung c = kept_rung
 
 pub returns-clause-front : goal.returns-clause-front
-returns-clause-front c D bytes e kept = kept_same D e (with_front_put bytes e) kept refl refl refl refl refl
+returns-clause-front c D d bytes e kept = kept_same D d e (with_front_put bytes e) kept refl refl refl refl
 
 pub returns-clause-held : goal.returns-clause-held
-returns-clause-held c D to e kept = kept_same D e (with_hold to e) kept refl refl refl refl refl
+returns-clause-held c D d to e kept = kept_same D d e (with_hold to e) kept refl refl refl refl
 
 pub returns-clause-moved : goal.returns-clause-moved
-returns-clause-moved c D to e kept = kept_same D e (with_arc to e) kept refl refl refl refl refl
+returns-clause-moved c D d to e kept = kept_same D d e (with_arc to e) kept refl refl refl refl
 
 pub returns-clause-failed : goal.returns-clause-failed
-returns-clause-failed c D e kept = kept_same D e (with_failed_arc e) kept refl refl refl refl refl
+returns-clause-failed c D d e kept = kept_same D d e (with_failed_arc e) kept refl refl refl refl
 
 pub returns-clause-released : goal.returns-clause-released
-returns-clause-released c D e kept = kept_same D e (with_no_hold e) kept refl refl refl refl refl
+returns-clause-released c D d e kept = kept_same D d e (with_no_hold e) kept refl refl refl refl
 
 pub returns-clause-resumed : goal.returns-clause-resumed
-returns-clause-resumed c D e kept = kept_same D e (with_resumed e) kept refl refl refl refl refl
+returns-clause-resumed c D d e kept = kept_same D d e (with_resumed e) kept refl refl refl refl

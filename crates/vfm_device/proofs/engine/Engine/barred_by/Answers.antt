@@ -6,4 +6,4 @@ use Rattle.vfm_device.proofs.engine.Engine.barred_by.Goals as goal
 pub returns-in-Some : goal.returns-in-Some
 returns-in-Some c =
     rw (c.judged.ensures, c.has_turn-turn.ensures, c.is_allowed.ensures c.args.begun, c.may_start.ensures)
-    (sym (barred_some c.args.desc.now c.args.begun c.args.self.now (c.in-Some.field-0-0, c.in-Some.job) c.in-Some.ensures.next))
+    (sym (barred_some c.args.desc.now c.args.d c.args.begun c.args.self.now (c.in-Some.field-0-0, c.in-Some.job) c.in-Some.ensures.next))

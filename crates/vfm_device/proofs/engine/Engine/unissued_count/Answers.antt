@@ -10,7 +10,7 @@ overflow_sub-result c =
     let requests = ap (λ (e : EngineState). e.requests) c.self.view_is in
     let sum : c.count.result ≡ c.undelivered.result + length (unissued_in c.args.self.now) =
     rw (c.count.ensures, c.undelivered.ensures.value, pending, requests)
-    (unissued_length c.args.desc.now c.args.self.now.device (plain_with [] c.args.self.now) c.args.self.now.requests c.requires.kept.queue) in
+    (unissued_length c.args.desc.now c.args.d (plain_with [] c.args.self.now) c.args.self.now.requests c.requires.kept.queue) in
     omega (arith, sum)
 
 pub returns : goal.returns
@@ -19,5 +19,5 @@ returns c =
     let requests = ap (λ (e : EngineState). e.requests) c.self.view_is in
     let sum : c.count.result ≡ c.undelivered.result + length (unissued_in c.args.self.now) =
     rw (c.count.ensures, c.undelivered.ensures.value, pending, requests)
-    (unissued_length c.args.desc.now c.args.self.now.device (plain_with [] c.args.self.now) c.args.self.now.requests c.requires.kept.queue) in
+    (unissued_length c.args.desc.now c.args.d (plain_with [] c.args.self.now) c.args.self.now.requests c.requires.kept.queue) in
     omega (arith, sum)

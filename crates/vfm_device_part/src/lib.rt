@@ -1,0 +1,10 @@
+//! The part of one device and of one page of a machine on its move, and the steps of a device on them.
+#![tactic(auto)]
+
+mod guard;
+mod page;
+mod part;
+
+pub use guard::Guard;
+pub use page::PagePart;
+pub use part::DevPart;

@@ -1,0 +1,2 @@
+pub mod LeadSteps
+pub mod Shown
