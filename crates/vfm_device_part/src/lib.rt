@@ -5,6 +5,8 @@ mod delivery;
 mod own;
 mod page;
 mod part;
+mod steps;
 
 pub use page::PagePart;
 pub use part::DevPart;
+pub use steps::{Guard, step_own, step_to_device, step_to_page};
