@@ -5,3 +5,4 @@ pub mod Completed
 pub mod Deliveries
 pub mod Struck
 pub mod Picks
+pub mod AllowedSteps
