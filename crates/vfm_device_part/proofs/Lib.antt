@@ -6,3 +6,4 @@ pub mod Deliveries
 pub mod Struck
 pub mod Picks
 pub mod AllowedSteps
+pub mod Entries
