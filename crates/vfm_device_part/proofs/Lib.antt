@@ -4,3 +4,6 @@ pub mod Engines
 pub mod Completed
 pub mod Deliveries
 pub mod Struck
+pub mod Picks
+pub mod AllowedSteps
+pub mod Entries

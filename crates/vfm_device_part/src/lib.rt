@@ -2,11 +2,14 @@
 #![tactic(auto)]
 
 mod delivery;
-mod guard;
+mod laws;
 mod own;
 mod page;
 mod part;
+mod pick;
+mod steps;
 
-pub use guard::Guard;
+pub use laws::{device_steps_are_entries, picks_are_allowed_steps, targets_are_aims};
 pub use page::PagePart;
 pub use part::DevPart;
+pub use steps::{Guard, step_own, step_to_device, step_to_page};
