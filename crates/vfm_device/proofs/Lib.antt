@@ -5,3 +5,4 @@ pub mod NextRequest
 pub mod Turns
 pub mod Kept
 pub mod OfParts
+pub mod Jobs

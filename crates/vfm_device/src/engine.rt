@@ -5,7 +5,7 @@ ghost use Rattle.vfm_base.specs.Tests.{first_failed};
 ghost use Rattle.vfm_types.specs.Desc.{device_count, job_at, shape_at};
 ghost use Rattle.vfm_laws.specs.Queues.{is_listed};
 ghost use Rattle.vfm_plain.specs.IssueRules.{first_number};
-ghost use Rattle.vfm_types.specs.Outstanding.{is_undelivered, is_arrived, is_outstanding};
+ghost use Rattle.vfm_types.specs.Outstanding.{is_undelivered, is_arrived, is_outstanding, outstanding_job_or_zero};
 ghost use Rattle.vfm_types.specs.Requests.{fences, job_or_zero};
 ghost use Rattle.vfm_types.specs.Words.{has_barred, has_fence, is_nothing};
 ghost use Rattle.vfm_parts.specs.IssueStep.{is_next_to_issue_in, issue_conditions_in};
@@ -240,8 +240,8 @@ impl Engine {
         self.issues += 1;
     }
 
-    // the number of the job of request n, which is pending
-    fn pending_job(&self, n: u32) -> u32
+    /// The number of the job of request `n`, which is pending.
+    pub fn pending_job(&self, n: u32) -> u32
         requires { is_listed n self.now.pending ≡ true }
         ensures { result ≡ job_or_zero n self.now.pending }
     {
@@ -345,6 +345,17 @@ impl Engine {
         match self.bus.job(n) {
             Some(job) => job,
             None => self.pending_job(n),
+        }
+    }
+
+    /// The number of the job of request `n`, which is on the bus.
+    pub fn job_on_bus(&self, n: u32) -> u32
+        requires { is_outstanding n self.now.requests ≡ true }
+        ensures { result ≡ outstanding_job_or_zero n self.now.requests }
+    {
+        match self.bus.job(n) {
+            Some(job) => job,
+            None => unreachable!(),
         }
     }
 

@@ -12,6 +12,7 @@ pub use laws::{
     engine_steps_are_part_steps, engines_start_in_order, engines_stay_in_order,
     undelivered_requests_are_pending,
 };
+pub use turn::{job_at, shape_at};
 
 #[cfg(test)]
 mod tests;

@@ -3,6 +3,8 @@
 ghost use Rattle.std.specs.Prelude.{◌≡◌, ◌<◌, ◌&&◌, ◌||◌, not, length, IsTrue};
 ghost use Rattle.vfm_types.specs.Arcs.{is_running, is_p2p};
 ghost use Rattle.vfm_types.specs.Desc.{device_count, job_at, shape_at};
+ghost use Rattle.vfm_types.specs.Job.{length_of, place_of};
+ghost use Rattle.vfm_plain.specs.Shape.{Lies};
 ghost use Rattle.vfm_types.specs.Valid.{InRange, IsValid, is_job_in_range};
 ghost use Rattle.vfm_types.specs.Words.{is_barred};
 ghost use Rattle.vfm_device.specs.EngineState.{item_at, judged};
@@ -29,13 +31,14 @@ pub fn shape_at(desc: &Desc, d: DeviceId) -> &DevShape
     desc.devices.at(u32::from(d.0))
 }
 
-/// A job of a device, which is in its ranges.
+/// A job of a device: it is in its ranges, and lies in one region that is there.
 pub fn job_at(desc: &Desc, d: DeviceId, j: u32) -> &Job
     requires valid { IsValid desc.now }
     requires device { d < device_count desc.now }
     requires job { j < length (shape_at desc.now d).jobs }
     ensures value { result.now ≡ job_at desc.now d j }
     ensures in_range { IsTrue (is_job_in_range result.now) }
+    ensures lies { Lies desc.now (place_of desc.now result.now) (length_of result.now) }
 {
     shape_at(desc, d).jobs.at(j)
 }

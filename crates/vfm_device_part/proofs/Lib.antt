@@ -1,3 +1,6 @@
 -- The lemmas of this crate.
 pub mod Shapes
 pub mod Engines
+pub mod Completed
+pub mod Deliveries
+pub mod Struck

@@ -1,1 +1,3 @@
+pub mod DeviceSteps
 pub mod Part
+pub mod PartWrites

@@ -1,7 +1,9 @@
 //! The part of one device and of one page of a machine on its move, and the steps of a device on them.
 #![tactic(auto)]
 
+mod delivery;
 mod guard;
+mod own;
 mod page;
 mod part;
 

@@ -1,6 +1,6 @@
 //! The part of one device: its engine, its BARs, its dirty log, and whether it was released.
 
-ghost use Rattle.std.specs.Prelude.{◌≡◌, ◌+◌, ◌*◌, ◌<◌, ◌≤◌, ◌==◌, ◌||◌, ◌&&◌, not, true, [], length, take, drop, IfOk};
+ghost use Rattle.std.specs.Prelude.{◌≡◌, ◌+◌, ◌*◌, ◌<◌, ◌≤◌, ◌==◌, ◌||◌, ◌&&◌, not, ℕ, true, [], length, take, drop, IfOk};
 ghost use Rattle.vfm_base.specs.PageSet.{IsPageList, contains_page, least_page_from, pages_where};
 ghost use Rattle.vfm_types.specs.declared.desc.Desc.{Desc};
 ghost use Rattle.vfm_types.specs.Desc.{bar_bytes, device_count, shape_at};
@@ -16,7 +16,7 @@ ghost use Rattle.vfm_parts.specs.BeginStep.{begun_dev};
 ghost use Rattle.vfm_parts.specs.HoldStep.{held_dev};
 ghost use Rattle.vfm_parts.specs.ArcStep.{moved_dev};
 ghost use Rattle.vfm_parts.specs.FailStep.{failed_dev};
-ghost use Rattle.vfm_parts.specs.BlockStep.{next_block_in};
+ghost use Rattle.vfm_parts.specs.BlockStep.{next_block_in, read_dev};
 ghost use Rattle.vfm_parts.specs.ReportStep.{reported_dev};
 ghost use Rattle.vfm_parts.specs.AbortStep.{aborted_dev};
 ghost use Rattle.vfm_parts.specs.ResumeStep.{resumed_dev};
@@ -35,9 +35,9 @@ use vfm_types::{Desc, DevLook, DeviceId, MigState, NoMemory, PageSet};
 /// Only `of` and `staged` take memory.
 #[derive(Drop)]
 pub struct DevPart {
-    engine: Engine,
-    bar: Bar,
-    log: DirtyLog,
+    pub(crate) engine: Engine,
+    pub(crate) bar: Bar,
+    pub(crate) log: DirtyLog,
     released: bool,
 }
 
@@ -147,13 +147,14 @@ impl DevPart {
         self.bar.block(b)
     }
 
-    /// Takes the marks of block `b` of the BARs away, as it is read.
+    /// Takes the marks of block `b` of the BARs away, as it is read: what a Block makes of the part.
     pub fn read_block(&mut self, b: u32)
         requires { 64 * (b + 1) ≤ length self.old.plain.bar }
-        ensures { self.new ≡ record self.old {
+        ensures taken { self.new ≡ record self.old {
           unread = pages_where (λ c. contains_page self.old.unread c && not (c == b));
           dirty = pages_where (λ c. contains_page self.old.dirty c && not (c == b));
         } }
+        ensures read { (D : Desc) (d : ℕ) → IsValid D → d < device_count D → DevFits D d self.old → self.new ≡ read_dev D d b self.old }
     {
         self.bar.unmark(b);
     }
