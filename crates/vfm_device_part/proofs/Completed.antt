@@ -3,13 +3,14 @@ use Rattle.std.proofs.Common.{◌≡◌, ℕ, ◌+◌, ◌<◌, ◌==◌, ◌||�
 use Rattle.std.specs.Prelude.{All}
 use Rattle.std.proofs.lemmas.Bool.{false≢true}
 use Rattle.std.proofs.lemmas.List.Elements.{All-head, All-tail}
+use Rattle.vfm_base.specs.Tests.{first_failed}
 use Rattle.vfm_types.specs.declared.desc.Desc.{Desc}
 use Rattle.vfm_types.specs.Desc.{job_at}
 use Rattle.vfm_types.specs.Outstanding.{Outstanding, complete_if, is_arrived, is_outstanding, outstanding_job_or_zero}
 use Rattle.vfm_types.specs.Valid.{IsValid}
 use Rattle.vfm_parts.specs.Parts.{Dev}
 use Rattle.vfm_parts.specs.Fits.{DevFits}
-use Rattle.vfm_parts.specs.CompleteStep.{completed_dev}
+use Rattle.vfm_parts.specs.CompleteStep.{complete_conditions_in, completed_dev}
 use Rattle.vfm_dirty.specs.LogState.{Log}
 use Rattle.vfm_dirty.specs.LogOfParts.{IsPageOf, log_of, with_log, with_page_marked, written_page}
 use Rattle.vfm_dirty.proofs.OfParts.{completed_marks}
@@ -23,6 +24,9 @@ arrived_outstanding n (r ∷ requests) arrived =
         → (b || is_outstanding n requests) ≡ true
     go true h rest = refl
     go false h rest = rest h
+
+pub arrived_fine : (n : ℕ) (dev : Dev) → is_arrived n dev.requests ≡ true → first_failed (complete_conditions_in n dev) ≡ None
+arrived_fine n dev arrived = rw arrived refl
 
 pub known_job : (jobs n : ℕ) (requests : List Outstanding) → All (λ (r : Outstanding). r.job < jobs) requests → is_arrived n requests ≡ true
     → outstanding_job_or_zero n requests < jobs

@@ -1,11 +1,11 @@
 -- A request that waits for its delivery: it is pending, and aimed at a region that is there.
-use Rattle.std.proofs.Common.{◌≡◌, ℕ, ◌<◌, Bool, true, false, Some, None, length, refl, ap, ◌∙◌}
+use Rattle.std.proofs.Common.{◌≡◌, ℕ, ◌+◌, ◌<◌, ◌≤◌, true, false, Some, None, length, refl, subst, ap, ◌∙◌}
 use Rattle.vfm_base.specs.Tests.{first_failed}
 use Rattle.vfm_types.specs.declared.desc.Desc.{Desc}
 use Rattle.vfm_types.specs.declared.job.Region.{Region}
 use Rattle.vfm_types.specs.declared.job.Region.TheVariants.{Page, Bar}
 use Rattle.vfm_types.specs.declared.entry.Rule.TheVariants.{Turn}
-use Rattle.vfm_types.specs.Desc.{device_count, shape_at}
+use Rattle.vfm_types.specs.Desc.{bar_bytes, device_count, shape_at}
 use Rattle.vfm_types.specs.Job.{is_bar_of, length_of, place_of}
 use Rattle.vfm_types.specs.Outstanding.{is_undelivered}
 use Rattle.vfm_types.specs.Requests.{job_or_zero}
@@ -41,3 +41,10 @@ waits_target D d n dev valid inside fits waits =
     let job = job_in D d n dev in
     is_target D d (place_of D job).offset (length_of job) (place_of D job).region (job_lies D d n dev valid inside fits (waits_fine n dev waits))
     (job_sound D d n dev valid inside fits (waits_fine n dev waits)).not_own
+
+-- what lies in a region that is the BARs of device t, or page p
+pub lies_in_bar : (D : Desc) (t offset len : ℕ) (region : Region) → region ≡ Bar t → LiesIn D region offset len → offset + len ≤ bar_bytes (shape_at D t)
+lies_in_bar D t offset len region is lies = (subst (λ (r : Region). LiesIn D r offset len) is lies).1
+
+pub lies_in_page : (D : Desc) (p offset len : ℕ) (region : Region) → region ≡ Page p → LiesIn D region offset len → offset + len ≤ D.page
+lies_in_page D p offset len region is lies = (subst (λ (r : Region). LiesIn D r offset len) is lies).1

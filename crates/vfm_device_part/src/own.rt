@@ -27,6 +27,7 @@ impl DevPart {
             (λ rule. first_failed (issue_conditions_in desc.now d n self.old) ≡ Some rule) }
         ensures done { OnOk result (self.new ≡ issued_dev n self.old) }
         ensures same { OnErr result (self.new ≡ self.old) }
+        ensures fits { DevFits desc.now d self.new }
     {
         if let Some(rule) = self.issue_fault(desc, d, n) {
             return Err(rule);
@@ -67,6 +68,7 @@ impl DevPart {
             (λ rule. first_failed (complete_conditions_in n self.old) ≡ Some rule) }
         ensures done { OnOk result (self.new ≡ completed_dev desc.now d n self.old) }
         ensures same { OnErr result (self.new ≡ self.old) }
+        ensures fits { DevFits desc.now d self.new }
     {
         if !self.engine.is_arrived(n) {
             return Err(Rule::Turn);
