@@ -2,13 +2,11 @@
 #![tactic(auto)]
 
 mod delivery;
-mod guard;
 mod own;
 mod page;
 mod part;
 mod steps;
 
-pub use guard::Guard;
 pub use page::PagePart;
 pub use part::DevPart;
 pub use steps::{Guard, step_own, step_to_device, step_to_page};
