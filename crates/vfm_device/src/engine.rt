@@ -5,7 +5,7 @@ ghost use Rattle.vfm_base.specs.Tests.{first_failed};
 ghost use Rattle.vfm_types.specs.Desc.{device_count, job_at, shape_at};
 ghost use Rattle.vfm_laws.specs.Queues.{is_listed};
 ghost use Rattle.vfm_plain.specs.IssueRules.{first_number};
-ghost use Rattle.vfm_types.specs.Outstanding.{is_undelivered, is_arrived, is_outstanding, outstanding_job_or_zero};
+ghost use Rattle.vfm_types.specs.Outstanding.{delivered_count, is_arrived, is_outstanding, is_undelivered, outstanding_job_or_zero, undelivered_count};
 ghost use Rattle.vfm_types.specs.Requests.{fences, job_or_zero};
 ghost use Rattle.vfm_types.specs.Words.{has_barred, has_fence, is_nothing};
 ghost use Rattle.vfm_parts.specs.IssueStep.{is_next_to_issue_in, issue_conditions_in};
@@ -388,6 +388,15 @@ impl Engine {
         ensures { result ≡ has_barred desc.now d self.now.requests }
     {
         self.bus.has_barred(desc, d)
+    }
+
+    /// How many requests on the bus were delivered, and how many wait for it; at most eight are there.
+    pub fn on_bus(&self) -> (u32, u32)
+        requires { length self.now.requests ≤ 8 }
+        ensures delivered { result.0 ≡ delivered_count self.now.requests }
+        ensures undelivered { result.1 ≡ undelivered_count self.now.requests }
+    {
+        (self.bus.delivered(), self.bus.undelivered())
     }
 
     /// The number of the `k`-th of the requests on the bus that were delivered, or of those that weren't, counted from 0 in

@@ -4,3 +4,4 @@ pub mod Engines
 pub mod Completed
 pub mod Deliveries
 pub mod Struck
+pub mod Picks

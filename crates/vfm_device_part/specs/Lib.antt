@@ -1,3 +1,4 @@
 pub mod DeviceSteps
 pub mod Part
 pub mod PartWrites
+pub mod Pick

@@ -5,6 +5,7 @@ mod delivery;
 mod own;
 mod page;
 mod part;
+mod pick;
 mod steps;
 
 pub use page::PagePart;
