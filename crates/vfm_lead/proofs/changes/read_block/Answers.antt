@@ -1,10 +1,10 @@
 -- The marks of the block are gone.
-use Rattle.std.proofs.Common.{ℕ, ◌==◌, ◌&&◌, ◌<◌, not, length, slice_index_or, slice_set, ap, ap₂, ◌∙◌, arith}
+use Rattle.std.proofs.Common.{ℕ, ◌<◌, length, slice_index_or, slice_set, ap, ap₂, sym, subst, ◌∙◌, arith}
 use Rattle.std.proofs.lemmas.List.{get_or_default}
-use Rattle.vfm_base.specs.PageSet.{contains_page, pages_where}
 use Rattle.vfm_parts.specs.Parts.{Dev, no_dev}
+use Rattle.vfm_parts.specs.Fits.{DevFits}
+use Rattle.vfm_parts.specs.BlockStep.{read_dev}
 use Rattle.vfm_lead.specs.LeadSteps.{dev_of_list}
-use Rattle.vfm_lead.proofs.Blocks.{block_read}
 use Rattle.vfm_lead.proofs.changes.read_block.Goals as goal
 
 pub returns : goal.returns
@@ -13,11 +13,7 @@ returns c =
     let inside : c.args.d < length c.args.devices.now = omega arith in
     let same = ap (λ (i : ℕ). slice_index_or c.args.devices.now i c.index-devices-from.result) place
     ∙ get_or_default c.args.devices.now c.args.d c.index-devices-from.result no_dev inside in
+    let fits = subst (λ (dev : Dev). DevFits c.args.desc.now c.args.d dev) (sym same) (c.requires.devices.each c.args.d c.requires.device) in
     ap₂ (λ (i : ℕ) (dev : Dev). slice_set c.args.devices.now i dev) place
-    (c.read_block.ensures
-    ∙ ap (λ (dev : Dev). record dev {
-      unread = pages_where (λ k. contains_page dev.unread k && not (k == c.args.b));
-      dirty = pages_where (λ k. contains_page dev.dirty k && not (k == c.args.b));
-    }) same
-    ∙ block_read c.args.desc.now c.args.d c.args.b (dev_of_list c.args.devices.now c.args.d) c.requires.valid c.requires.device
-    (c.requires.devices.each c.args.d c.requires.device))
+    (c.read_block.ensures.read c.args.desc.now c.args.d c.requires.valid c.requires.device fits
+    ∙ ap (read_dev c.args.desc.now c.args.d c.args.b) same)

@@ -1,0 +1,50 @@
+-- The state of a core: its description, the entries that it made, and the world of its parts; and what it keeps.
+use Rattle.std.specs.Prelude.{◌≡◌, ℕ, ◌+◌, ◌<◌, ◌≤◌, List, [], ◌∷◌, ◌++◌, length, slice_index_or}
+use Rattle.vfm_types.specs.declared.desc.Desc.{Desc}
+use Rattle.vfm_types.specs.declared.entry.Entry.{Entry}
+use Rattle.vfm_types.specs.Desc.{device_count}
+use Rattle.vfm_types.specs.Valid.{IsValid}
+use Rattle.vfm_parts.specs.Parts.{Dev, Lead, World, Parts, parts_in}
+use Rattle.vfm_parts.specs.Fits.{PageFits, PartsFit}
+use Rattle.vfm_parts.specs.Start.{first_lead}
+use Rattle.vfm_lead.specs.LeadSteps.{DevsFit}
+use Rattle.vfm_parts_laws.specs.EntriesLeft.{PartsStand, entries_left}
+
+-- the description, the entries made, oldest first, and the parts
+pub record CoreState : Type 0 where
+  pub desc : Desc
+  pub entries : List Entry
+  pub world : World
+
+-- the world of these parts
+abbrev pub world_with : Lead → List Dev → List (List ℕ) → World
+world_with lead devs pages = record { lead = lead; devs = devs; pages = pages }
+
+-- a world has the devices and the pages of its valid description, and each part fits it
+pub record FitsDesc (D : Desc) (w : World) : Type 0 where
+  pub valid : IsValid D
+  pub devs : length w.devs ≡ device_count D
+  pub pages : length w.pages ≡ D.pages
+  pub fits : PartsFit D (parts_in w)
+
+-- What a core keeps: its parts fit; no device is in ERROR, and each is held as it should be; and there is room for every
+-- entry that is left to its parts.
+pub record IsKept (D : Desc) (entries : List Entry) (room : ℕ) (w : World) : Type 0 where
+  pub fit : FitsDesc D w
+  pub stand : PartsStand D (parts_in w)
+  pub roomy : length entries + entries_left D (parts_in w) ≤ room
+
+-- the state with one more entry, and the world after it
+abbrev pub with_entry : Entry → World → CoreState → CoreState
+with_entry entry w core = record core { entries = core.entries ++ entry ∷ []; world = w }
+
+-- what a delivery reaches: the devices and the pages, beside a coordinator before the move
+abbrev pub reached : Desc → List Dev → List (List ℕ) → Parts
+reached D devs pages = parts_in (world_with (first_lead D) devs pages)
+
+-- there are as many devices and pages as the valid description has, and each fits
+pub record ReachFits (D : Desc) (devs : List Dev) (pages : List (List ℕ)) : Type 0 where
+  pub valid : IsValid D
+  pub devs_fit : DevsFit D devs
+  pub count : length pages ≡ D.pages
+  pub pages_fit : (p : ℕ) → p < D.pages → PageFits D (slice_index_or pages p [])
