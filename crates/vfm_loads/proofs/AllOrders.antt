@@ -12,13 +12,14 @@ use Rattle.vfm_types.specs.Deliveries.{page_bytes, machine_of, delivers}
 use Rattle.vfm_types.specs.Serial.{serial}
 use Rattle.vfm_types.specs.Valid.{IsValid}
 use Rattle.vfm_plain.specs.Legal.{IsLegal}
+use Rattle.vfm_plain.specs.Shape.{all_done}
 use Rattle.vfm_plain.specs.Ended.{has_ended}
 use Rattle.vfm_plain.proofs.Effects.{enabled_device}
 use Rattle.vfm_laws.proofs.Enabled.{plain_exists}
 use Rattle.vfm_laws.proofs.EndedRuns.{ended_pending}
 use Rattle.vfm_loads.specs.Generated.{queued_job, load_queue, load_shape, generated, peer_before}
 use Rattle.vfm_loads.specs.Still.{IsStill}
-use Rattle.vfm_loads.specs.Sums.{all_accepted, all_done, all_lost}
+use Rattle.vfm_loads.specs.Sums.{all_accepted, all_lost}
 use Rattle.vfm_loads.proofs.Numbers.{bells, bells_late}
 use Rattle.vfm_loads.proofs.Parts.{page_size, page_count, devices_are, shape_is, window_is}
 use Rattle.vfm_loads.proofs.LoadValid.{generated_valid}

@@ -8,3 +8,4 @@ pub mod Progress
 pub mod Turns
 pub mod TurnEffects
 pub mod AllOrders
+pub mod VariantsValid

@@ -7,10 +7,11 @@ ghost use Rattle.vfm_types.specs.Requests.{plain};
 ghost use Rattle.vfm_types.specs.Deliveries.{machine_of};
 ghost use Rattle.vfm_types.specs.Serial.{serial};
 ghost use Rattle.vfm_plain.specs.Legal.{IsLegal};
+ghost use Rattle.vfm_plain.specs.Shape.{all_done};
 ghost use Rattle.vfm_plain.specs.Ended.{has_ended};
 ghost use Rattle.vfm_loads.specs.Generated.{generated};
 ghost use Rattle.vfm_loads.specs.Still.{IsStill};
-ghost use Rattle.vfm_loads.specs.Sums.{all_accepted, all_done, all_lost};
+ghost use Rattle.vfm_loads.specs.Sums.{all_accepted, all_lost};
 
 /// Whatever enabled requests of a generated load are done one after another: where none is enabled any more, the
 /// machine is that of doing them in order.
