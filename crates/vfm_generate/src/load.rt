@@ -11,8 +11,8 @@ use vfm_types::{Desc, DevShape, NoMemory, Shapes};
 
 const DEVICES: u32 = 8;
 
-/// The description of load `n`: eight devices with 1,120 requests each, whose end depends on no schedule. It names itself
-/// by its number. Takes memory for the devices, 35 jobs and a queue of 1,088 requests of each.
+/// The description of load `n`: eight devices with 1,120 requests each, whose end depends on no schedule. Its
+/// session is its number. Takes memory for the devices, and for 35 jobs and a queue of 1,088 requests of each.
 #[tactic(auto, unfolding(vfm_loads::specs::Generated::generated))]
 pub fn generate(alloc: Global, n: u32) -> Result<Desc, NoMemory>
     ensures value { IfOk result (λ desc. desc ≡ generated n) }

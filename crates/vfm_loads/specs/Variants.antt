@@ -45,17 +45,21 @@ writer = small_machine (small_device 97 (Write 0 (5 ∷ []) ∷ Write 0 (7 ∷ [
 
 -- two devices that add to one word
 abbrev pub sharers : Desc
-sharers = small_machine (small_device 97 (Add 0 5 ∷ []) (0 ∷ []) ∷ small_device 98 (Add 0 7 ∷ []) (0 ∷ []) ∷ [])
+sharers =
+    small_machine
+    (small_device 97 (Add 0 5 ∷ []) (0 ∷ []) ∷ small_device 98 (Add 0 7 ∷ []) (0 ∷ []) ∷ [])
 
 -- a device that writes two blocks at one place of its peer's BAR
 abbrev pub painter : Desc
 painter =
     small_machine
-    (small_device 97 (Write 268959808 (5 ∷ []) ∷ Write 268959808 (7 ∷ []) ∷ []) (0 ∷ 1 ∷ []) ∷ small_device 98 [] [] ∷ [])
+    (small_device 97 (Write 268959808 (5 ∷ []) ∷ Write 268959808 (7 ∷ []) ∷ []) (0 ∷ 1 ∷ [])
+    ∷ small_device 98 [] [] ∷ [])
 
 -- a device that rings its peer's doorbell for two jobs
 abbrev pub ringer : Desc
 ringer =
     small_machine
-    (small_device 97 (Write 268959744 (0 ∷ replicate 7 0) ∷ Write 268959744 (1 ∷ replicate 7 0) ∷ []) (0 ∷ 1 ∷ [])
+    (small_device 97 (Write 268959744 (0 ∷ replicate 7 0) ∷ Write 268959744 (1 ∷ replicate 7 0) ∷ [])
+    (0 ∷ 1 ∷ [])
     ∷ small_device 98 (Add 0 5 ∷ Add 0 7 ∷ []) [] ∷ [])

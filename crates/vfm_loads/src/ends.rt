@@ -20,10 +20,11 @@ pub fn every_order_ends_alike()
         → plain (generated N) requests ≡ Some m → IsStill (generated N) m → m ≡ serial (generated N) }
 {}
 
-/// Every legal run of a generated load that has ended, moved or not, has the machine of doing its requests in order.
+/// Every legal run of a generated load that has ended, moved or not, has the machine of doing its requests in
+/// order.
 pub fn every_run_ends_alike()
-    ensures { (N : ℕ) → N < 2 ^ 32 → (past : List Entry) → IsLegal (generated N) past → IsTrue (has_ended (generated N) past)
-        → machine_of (generated N) past ≡ serial (generated N) }
+    ensures { (N : ℕ) → N < 2 ^ 32 → (past : List Entry) → IsLegal (generated N) past
+        → IsTrue (has_ended (generated N) past) → machine_of (generated N) past ≡ serial (generated N) }
 {}
 
 /// At that end the devices together have accepted 8,960 requests, done as many and lost none.

@@ -1,5 +1,5 @@
-//! The generated load, and the law that its end depends on no schedule. Each law is a function without a body whose
-//! contract states it.
+//! The generated load, and the law that its end depends on no schedule. Each law is a function without a body
+//! whose contract states it.
 #![tactic(auto)]
 
 mod ends;

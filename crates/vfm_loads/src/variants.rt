@@ -1,13 +1,11 @@
-//! Why the generated load is as it is: small machines that lack one of its properties each, and of which two orders of
-//! enabled requests come to two ends.
+//! Why the generated load is as it is: small machines that lack one of its properties each, so that two orders
+//! of enabled requests come to two ends.
 
-ghost use Rattle.std.specs.Prelude.{◌≡◌, ℕ, [], ◌∷◌, replicate, take, slice_index, Some, None};
-ghost use Rattle.std.specs.Option.{option_map};
-ghost use Rattle.vfm_types.specs.Machine.{device_of, described};
-ghost use Rattle.vfm_types.specs.Deliveries.{page_bytes, block_bytes};
+ghost use Rattle.std.specs.Prelude.{◌≡◌, [], ◌∷◌, slice_index, Some, None};
+ghost use Rattle.vfm_types.specs.Machine.{device_of};
 ghost use Rattle.vfm_types.specs.Requests.{plain};
 ghost use Rattle.vfm_types.specs.Valid.{IsValid};
-ghost use Rattle.vfm_loads.specs.Orders.{end_of, forced};
+ghost use Rattle.vfm_loads.specs.Orders.{page_byte, buffer_byte, block_byte, forced};
 ghost use Rattle.vfm_loads.specs.Variants.{adder, writer, sharers, painter, ringer};
 
 /// These machines are valid.
@@ -19,33 +17,34 @@ pub fn variants_are_valid()
     ensures ringer { IsValid ringer }
 {}
 
-/// Counts are fences: the second of two can't be done first. If it could, the buffer would hold another word at the end.
+/// Counts are fences: the second of two can't be done first. If it could, the buffer would hold another word at
+/// the end.
 pub fn counts_must_be_fences()
-    ensures in_order { option_map (λ m. take 8 (device_of m 0).buf) (end_of adder ((0, 0) ∷ (0, 1) ∷ [])) ≡ Some (5 ∷ replicate 7 0) }
+    ensures in_order { buffer_byte adder 0 ((0, 0) ∷ (0, 1) ∷ []) ≡ Some 5 }
     ensures refused { plain adder ((0, 1) ∷ (0, 0) ∷ []) ≡ None }
-    ensures otherwise { take 8 (device_of (forced adder (described adder) ((0, 1) ∷ (0, 0) ∷ [])) 0).buf ≡ 7 ∷ replicate 7 0 }
+    ensures otherwise { slice_index (device_of (forced adder ((0, 1) ∷ (0, 0) ∷ [])) 0).buf 0 ≡ 7 }
 {}
 
 /// Writes are no fences: two of them at one place of a page come to two ends.
 pub fn writes_in_place_of_counts()
-    ensures in_order { option_map (λ m. slice_index (page_bytes m 0) 0) (end_of writer ((0, 0) ∷ (0, 1) ∷ [])) ≡ Some 7 }
-    ensures swapped { option_map (λ m. slice_index (page_bytes m 0) 0) (end_of writer ((0, 1) ∷ (0, 0) ∷ [])) ≡ Some 5 }
+    ensures in_order { page_byte writer ((0, 0) ∷ (0, 1) ∷ []) ≡ Some 7 }
+    ensures swapped { page_byte writer ((0, 1) ∷ (0, 0) ∷ []) ≡ Some 5 }
 {}
 
-/// Two devices that count in one page find another word there in the other order.
+/// Two devices that count in one word find another value there in the other order.
 pub fn pages_shared()
-    ensures in_order { option_map (λ m. slice_index (device_of m 1).buf 0) (end_of sharers ((0, 0) ∷ (1, 0) ∷ [])) ≡ Some 5 }
-    ensures swapped { option_map (λ m. slice_index (device_of m 1).buf 0) (end_of sharers ((1, 0) ∷ (0, 0) ∷ [])) ≡ Some 0 }
+    ensures in_order { buffer_byte sharers 1 ((0, 0) ∷ (1, 0) ∷ []) ≡ Some 5 }
+    ensures swapped { buffer_byte sharers 1 ((1, 0) ∷ (0, 0) ∷ []) ≡ Some 0 }
 {}
 
 /// Blocks of two kinds at one place of a peer's BAR: the last one stays.
 pub fn blocks_of_two_kinds()
-    ensures in_order { option_map (λ m. slice_index (block_bytes m 1 1) 0) (end_of painter ((0, 0) ∷ (0, 1) ∷ [])) ≡ Some 7 }
-    ensures swapped { option_map (λ m. slice_index (block_bytes m 1 1) 0) (end_of painter ((0, 1) ∷ (0, 0) ∷ [])) ≡ Some 5 }
+    ensures in_order { block_byte painter 1 ((0, 0) ∷ (0, 1) ∷ []) ≡ Some 7 }
+    ensures swapped { block_byte painter 1 ((0, 1) ∷ (0, 0) ∷ []) ≡ Some 5 }
 {}
 
 /// A doorbell rung for two jobs: they are done in the order in which it was rung.
 pub fn bells_for_two_jobs()
-    ensures in_order { option_map (λ m. slice_index (device_of m 1).buf 0) (end_of ringer ((0, 0) ∷ (0, 1) ∷ (1, 0) ∷ (1, 1) ∷ [])) ≡ Some 5 }
-    ensures swapped { option_map (λ m. slice_index (device_of m 1).buf 0) (end_of ringer ((0, 1) ∷ (0, 0) ∷ (1, 0) ∷ (1, 1) ∷ [])) ≡ Some 7 }
+    ensures in_order { buffer_byte ringer 1 ((0, 0) ∷ (0, 1) ∷ (1, 0) ∷ (1, 1) ∷ []) ≡ Some 5 }
+    ensures swapped { buffer_byte ringer 1 ((0, 1) ∷ (0, 0) ∷ (1, 0) ∷ (1, 1) ∷ []) ≡ Some 7 }
 {}

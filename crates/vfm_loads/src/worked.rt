@@ -6,8 +6,8 @@ ghost use Rattle.vfm_types.specs.declared.job.Job.TheVariants.{Write, Add};
 ghost use Rattle.vfm_types.specs.Desc.{device_count, shape_at, job_at, bar_bytes};
 ghost use Rattle.vfm_loads.specs.Generated.{load_queue, generated};
 
-/// Counts: the first of all, the last of the last device of the greatest load, whose value is above 2^32, and one whose
-/// word is the first of its page again.
+/// Counts: the first of all, the last of the last device of the greatest load, whose value is above 2^32, and one
+/// whose word is the first of its page again.
 #[tactic(auto, unfolding(crate::specs::Generated::generated, crate::specs::Generated::load_shape, crate::specs::Generated::load_job))]
 pub fn counts_of_loads()
     ensures first { job_at (generated 0) 0 0 ≡ Add 0 1 }
