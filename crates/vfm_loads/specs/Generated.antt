@@ -1,5 +1,5 @@
--- The generated load: one description for each number N. Eight devices, each with 32 pages of its own to which it alone
--- adds, and with one peer, whose doorbell it rings and into whose BAR it writes one block.
+-- The generated load: one description for each number N. Eight devices, each with 32 pages of its own to which it
+-- alone adds, and with one peer, whose doorbell it rings and into whose BAR it writes one block.
 use Rattle.std.specs.Prelude.{ℕ, ◌+◌, ◌*◌, ◌%◌, ◌==◌, if◌then◌else◌, nat_lt, List, [], ◌∷◌, map, replicate}
 use Rattle.std.specs.List.{range_with_len}
 use Rattle.vfm_types.specs.declared.job.Job.{Job}
@@ -8,7 +8,8 @@ use Rattle.vfm_types.specs.declared.desc.DevShape.{DevShape}
 use Rattle.vfm_types.specs.declared.desc.Desc.{Desc}
 use Rattle.vfm_types.specs.Region.{bar_base, device_stride}
 
--- the one device whose doorbell device d rings, and into whose BAR it writes: the next one, and the first after the last
+-- the one device whose doorbell device d rings and into whose BAR it writes: the next one, and after the last the
+-- first
 abbrev pub peer_of : ℕ → ℕ
 peer_of d = (d + 1) % 8
 
