@@ -7,3 +7,4 @@ pub mod Struck
 pub mod Picks
 pub mod AllowedSteps
 pub mod Entries
+pub mod MoveFits

@@ -1,13 +1,25 @@
-//! What a pick gives, where a delivery is aimed, and what a device's steps are over all parts.
+//! What a pick gives, where a delivery is aimed, what a device's steps are over all parts, and that a part keeps its fit.
 
-ghost use Rattle.std.specs.Prelude.{◌≡◌, ◌≢◌, ◌↔◌, ℕ, None, Some, true};
+ghost use Rattle.std.specs.Prelude.{◌≡◌, ◌≢◌, ◌<◌, ◌↔◌, ℕ, None, Some, true};
 ghost use Rattle.vfm_types.specs.declared.desc.Desc.{Desc};
 ghost use Rattle.vfm_types.specs.declared.entry.Entry.{Entry};
 ghost use Rattle.vfm_types.specs.declared.entry.Entry.TheVariants.{Deliver};
 ghost use Rattle.vfm_types.specs.declared.entry.Rule.TheVariants.{Turn};
 ghost use Rattle.vfm_types.specs.declared.job.Region.{Region};
 ghost use Rattle.vfm_types.specs.declared.job.Region.TheVariants.{Bar, Page};
+ghost use Rattle.vfm_types.specs.declared.state.MigState.{MigState};
+ghost use Rattle.vfm_types.specs.Desc.{device_count, shape_at};
+ghost use Rattle.vfm_types.specs.Valid.{IsValid};
 ghost use Rattle.vfm_parts.specs.Parts.{Dev, Parts};
+ghost use Rattle.vfm_parts.specs.Start.{first_dev};
+ghost use Rattle.vfm_parts.specs.BeginStep.{begun_dev};
+ghost use Rattle.vfm_parts.specs.HoldStep.{held_dev};
+ghost use Rattle.vfm_parts.specs.ArcStep.{moved_dev};
+ghost use Rattle.vfm_parts.specs.FailStep.{failed_dev};
+ghost use Rattle.vfm_parts.specs.ReportStep.{reported_dev};
+ghost use Rattle.vfm_parts.specs.BlockStep.{read_dev};
+ghost use Rattle.vfm_parts.specs.AbortStep.{aborted_dev};
+ghost use Rattle.vfm_parts.specs.ResumeStep.{resumed_dev};
 ghost use Rattle.vfm_parts.specs.Fits.{DevFits};
 ghost use Rattle.vfm_parts.specs.DeliverStep.{job_in, page_after_job, region_of_job, struck_dev};
 ghost use Rattle.vfm_parts.specs.Steps.{dev_after, fault_in, lead_after, page_after, with_dev};
@@ -54,4 +66,17 @@ pub fn device_steps_are_entries()
         ≡ with_page p (page_after_job D (delivered_job D (Deliver d n) (parts.dev d)) (parts.dev d).plain.buf (parts.page p)) parts.page q }
     ensures no_device { (D : Desc) (parts : Parts) (d n p : ℕ) → region_of_job D (job_in D d n (parts.dev d)) ≡ Page p → (k : ℕ)
         → dev_after D parts (Deliver d n) k ≡ with_dev d (issuer_after D (Deliver d n) (parts.page p) (parts.dev d)) parts.dev k }
+{}
+
+/// A part fits its device as described, and still does after each step of the move on it.
+pub fn move_steps_keep_fit()
+    ensures first { (D : Desc) (d : ℕ) → IsValid D → d < device_count D → DevFits D d (first_dev (shape_at D d)) }
+    ensures begun { (D : Desc) (d : ℕ) (dev : Dev) → DevFits D d dev → DevFits D d (begun_dev dev) }
+    ensures held { (D : Desc) (d : ℕ) (to : MigState) (dev : Dev) → DevFits D d dev → DevFits D d (held_dev to dev) }
+    ensures moved { (D : Desc) (d : ℕ) (to : MigState) (dev : Dev) → DevFits D d dev → DevFits D d (moved_dev to dev) }
+    ensures failed { (D : Desc) (d : ℕ) (dev : Dev) → DevFits D d dev → DevFits D d (failed_dev dev) }
+    ensures reported { (D : Desc) (d : ℕ) (dev : Dev) → DevFits D d dev → DevFits D d (reported_dev dev) }
+    ensures read { (D : Desc) (d b : ℕ) (dev : Dev) → DevFits D d dev → DevFits D d (read_dev D d b dev) }
+    ensures aborted { (D : Desc) (d : ℕ) (dev : Dev) → DevFits D d dev → DevFits D d (aborted_dev dev) }
+    ensures resumed { (D : Desc) (d : ℕ) (dev : Dev) → DevFits D d dev → DevFits D d (resumed_dev dev) }
 {}
