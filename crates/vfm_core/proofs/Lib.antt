@@ -1,0 +1,5 @@
+pub mod Outcomes
+pub mod LeadWorlds
+pub mod Kept
+pub mod Between
+pub mod Reached
