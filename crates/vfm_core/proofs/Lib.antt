@@ -3,3 +3,5 @@ pub mod LeadWorlds
 pub mod Kept
 pub mod Between
 pub mod Reached
+pub mod Follows
+pub mod ShownWorld

@@ -4,7 +4,11 @@ use Rattle.vfm_types.specs.declared.desc.Desc.{Desc}
 use Rattle.vfm_types.specs.declared.entry.Entry.{Entry}
 use Rattle.vfm_types.specs.Desc.{device_count}
 use Rattle.vfm_types.specs.Valid.{IsValid}
+use Rattle.vfm_plain.specs.Legal.{IsLegal}
+use Rattle.vfm_parts.specs.PartsOf.{world_of}
+use Rattle.vfm_parts_laws.specs.StagedParts.{IsStagedAfter}
 use Rattle.vfm_parts.specs.Parts.{Dev, Lead, World, parts_in}
+use Rattle.vfm_parts.specs.Start.{first_world}
 use Rattle.vfm_parts.specs.Fits.{PageFits, PartsFit}
 use Rattle.vfm_parts_laws.specs.EntriesLeft.{PartsStand, entries_left}
 
@@ -40,3 +44,17 @@ with_entry entry w core = record core { entries = core.entries ++ entry ∷ []; 
 pub record PagesFit (D : Desc) (pages : List (List ℕ)) : Type 0 where
   pub count : length pages ≡ D.pages
   pub each : (p : ℕ) → p < D.pages → PageFits D (slice_index_or pages p [])
+
+-- the core of the described machine
+abbrev pub first_core : Desc → CoreState
+first_core D = record { desc = D; entries = []; world = first_world D }
+
+-- the parts are those of a legal list, newest first
+pub record IsAfter (D : Desc) (past : List Entry) (w : World) : Type 0 where
+  pub legal : IsLegal D past
+  pub told : w ≡ world_of D past
+
+-- the parts are those of a machine that was staged after a legal list, where that and the entries made since are this one
+pub record IsStagedOn (D : Desc) (past : List Entry) (w : World) : Type 0 where
+  pub legal : IsLegal D past
+  pub after : IsStagedAfter D past w

@@ -3,6 +3,7 @@
 
 mod core;
 mod deliver;
+mod described;
 mod step;
 
 pub use crate::core::Core;
