@@ -5,3 +5,4 @@ pub mod Between
 pub mod Reached
 pub mod Follows
 pub mod ShownWorld
+pub mod Machines

@@ -1,2 +1,4 @@
 pub mod CoreState
 pub mod Delivered
+pub mod Split
+pub mod Machines

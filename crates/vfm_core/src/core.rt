@@ -12,7 +12,7 @@ ghost use Rattle.vfm_order.specs.Alike.{IsAlike};
 ghost use Rattle.vfm_order.specs.LookAfter.{look_after};
 ghost use Rattle.vfm_device_part.specs.Pick.{enabled_steps, picked};
 ghost use Rattle.vfm_lead.specs.Shown.{Shows};
-ghost use Rattle.vfm_core.specs.CoreState.{IsAfter, IsStagedOn, first_core, with_entry};
+ghost use Rattle.vfm_core.specs.CoreState.{FitsDesc, IsAfter, IsStagedOn, first_core, with_entry};
 
 use crate::described::{described_devices, room_of_run, zero_pages};
 use crate::step::step_parts;
@@ -30,11 +30,11 @@ use vfm_types::{Desc, DeviceId, Entry, NoMemory};
 /// Only `of` and `staged` take memory: there is room for every entry that a run may still make.
 #[derive(Drop)]
 pub struct Core {
-    desc: Desc,
-    journal: Journal,
-    lead: LeadPart,
-    devices: Vec<DevPart>,
-    pages: Vec<PagePart>,
+    pub(crate) desc: Desc,
+    pub(crate) journal: Journal,
+    pub(crate) lead: LeadPart,
+    pub(crate) devices: Vec<DevPart>,
+    pub(crate) pages: Vec<PagePart>,
 }
 
 impl Model for Core {
@@ -124,10 +124,10 @@ impl Core {
         &self.journal
     }
 
-    /// The description.
+    /// The description, which the parts fit.
     pub fn desc(&self) -> &Desc
         ensures value { result.now ≡ self.now.desc }
-        ensures valid { IsValid result.now }
+        ensures fits { FitsDesc self.now.desc self.now.world }
     {
         &self.desc
     }

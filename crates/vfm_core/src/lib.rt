@@ -4,6 +4,10 @@
 mod core;
 mod deliver;
 mod described;
+mod laws;
+mod split;
 mod step;
 
 pub use crate::core::Core;
+pub use laws::{cores_are_plain, staged_cores_are_plain, steps_are_kept};
+pub use split::Split;
