@@ -6,3 +6,4 @@ pub mod Reached
 pub mod Follows
 pub mod ShownWorld
 pub mod Machines
+pub mod Loads

@@ -2,3 +2,4 @@ pub mod CoreState
 pub mod Delivered
 pub mod Split
 pub mod Machines
+pub mod Loaded
