@@ -4,10 +4,12 @@ use Rattle.vfm_types.specs.declared.desc.Desc.{Desc}
 use Rattle.vfm_types.specs.declared.entry.Entry.{Entry}
 use Rattle.vfm_types.specs.Desc.{device_count}
 use Rattle.vfm_types.specs.Valid.{IsValid}
-use Rattle.vfm_parts.specs.Parts.{Dev, Lead, World, Parts, parts_in}
+use Rattle.vfm_plain.specs.Legal.{IsLegal}
+use Rattle.vfm_parts.specs.PartsOf.{world_of}
+use Rattle.vfm_parts_laws.specs.StagedParts.{IsStagedAfter}
+use Rattle.vfm_parts.specs.Parts.{Dev, Lead, World, parts_in}
+use Rattle.vfm_parts.specs.Start.{first_world}
 use Rattle.vfm_parts.specs.Fits.{PageFits, PartsFit}
-use Rattle.vfm_parts.specs.Start.{first_lead}
-use Rattle.vfm_lead.specs.LeadSteps.{DevsFit}
 use Rattle.vfm_parts_laws.specs.EntriesLeft.{PartsStand, entries_left}
 
 -- the description, the entries made, oldest first, and the parts
@@ -38,13 +40,21 @@ pub record IsKept (D : Desc) (entries : List Entry) (room : ℕ) (w : World) : T
 abbrev pub with_entry : Entry → World → CoreState → CoreState
 with_entry entry w core = record core { entries = core.entries ++ entry ∷ []; world = w }
 
--- what a delivery reaches: the devices and the pages, beside a coordinator before the move
-abbrev pub reached : Desc → List Dev → List (List ℕ) → Parts
-reached D devs pages = parts_in (world_with (first_lead D) devs pages)
-
--- there are as many devices and pages as the valid description has, and each fits
-pub record ReachFits (D : Desc) (devs : List Dev) (pages : List (List ℕ)) : Type 0 where
-  pub valid : IsValid D
-  pub devs_fit : DevsFit D devs
+-- there are as many pages as the description has, and each fits
+pub record PagesFit (D : Desc) (pages : List (List ℕ)) : Type 0 where
   pub count : length pages ≡ D.pages
-  pub pages_fit : (p : ℕ) → p < D.pages → PageFits D (slice_index_or pages p [])
+  pub each : (p : ℕ) → p < D.pages → PageFits D (slice_index_or pages p [])
+
+-- the core of the described machine
+abbrev pub first_core : Desc → CoreState
+first_core D = record { desc = D; entries = []; world = first_world D }
+
+-- the parts are those of a legal list, newest first
+pub record IsAfter (D : Desc) (past : List Entry) (w : World) : Type 0 where
+  pub legal : IsLegal D past
+  pub told : w ≡ world_of D past
+
+-- the parts are those of a machine that was staged after a legal list, where that and the entries made since are this one
+pub record IsStagedOn (D : Desc) (past : List Entry) (w : World) : Type 0 where
+  pub legal : IsLegal D past
+  pub after : IsStagedAfter D past w

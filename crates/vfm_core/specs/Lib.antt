@@ -1,1 +1,5 @@
 pub mod CoreState
+pub mod Delivered
+pub mod Split
+pub mod Machines
+pub mod Loaded

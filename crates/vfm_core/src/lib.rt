@@ -3,6 +3,16 @@
 
 mod core;
 mod deliver;
+mod described;
+mod entries;
+mod laws;
+mod split;
+mod staged;
 mod step;
 
 pub use crate::core::Core;
+pub use laws::{cores_are_plain, staged_cores_are_plain, steps_are_kept};
+pub use split::Split;
+
+#[cfg(test)]
+mod tests;

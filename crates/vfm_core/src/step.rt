@@ -51,5 +51,5 @@ fn own_step(desc: &Desc, devices: &mut [DevPart], d: DeviceId, e: &Entry) -> Res
     ensures done { OnOk result (devices.new ≡ slice_set devices.old d (own_after desc.now e.now (dev_of_list devices.old d))) }
     ensures same { OnErr result (devices.new ≡ devices.old) }
 {
-    unreachable!()
+    step_own(desc, d, &mut devices[usize::from(d.0)], *e)
 }

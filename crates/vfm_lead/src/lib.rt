@@ -14,6 +14,7 @@ mod phase_faults;
 mod step;
 mod words;
 
+pub use devices::device;
 pub use look::{look_of, looks_show_the_list};
 pub use part::LeadPart;
 pub use step::{step_copy, step_lead};
