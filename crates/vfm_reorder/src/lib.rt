@@ -10,3 +10,6 @@ mod held;
 
 pub use buffer::ReorderBuf;
 pub use faults::{Gap, PutFault};
+
+#[cfg(test)]
+mod tests;
