@@ -21,3 +21,6 @@ pub use mesh::Mesh;
 pub use parcel::Parcel;
 pub use rest::Rest;
 pub use settling::settle;
+
+#[cfg(test)]
+mod tests;

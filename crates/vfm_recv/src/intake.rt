@@ -1,6 +1,6 @@
 //! What came of a channel, packet after packet.
 
-ghost use Rattle.std.specs.Prelude.{◌≡◌, ◌+◌, ◌<◌, ◌≤◌, ℕ, List, ◌++◌, length, vec_len};
+ghost use Rattle.std.specs.Prelude.{◌≡◌, ◌+◌, ◌<◌, ◌≤◌, ℕ, List, ◌++◌, length, vec_len, is_ok, if◌then◌else◌};
 ghost use Rattle.vfm_packet.specs.Answer.{IsPartial};
 ghost use Rattle.vfm_recv.specs.Exact.{IsExact};
 
@@ -10,6 +10,7 @@ use std::mem;
 use vfm_base::u32_at;
 use vfm_mesh::{Bytes, Fan, Parcel};
 use vfm_packet::{CHANNEL_LIMIT, Cause, Decoded, Expect, HEAD_LEN, Header, Kind, decode, seal_len};
+use vfm_types::NoMemory;
 
 /// Where the reading of a channel stands.
 #[derive(Clone, Copy, Debug, PartialEq, Eq)]
@@ -53,6 +54,15 @@ fn wanted(held: &[u8], expect: &Expect) -> usize
         return HEAD_LEN - held.len();
     }
     HEAD_LEN + u32_at(held, 24) as usize + seal_len(expect.version) - held.len()
+}
+
+// Appends bytes, and takes memory at once for so many, so that none are moved when the others come.
+fn extend(held: &mut Vec<u8>, bytes: &[u8], wanted: usize) -> Result<(), NoMemory>
+    ensures items { held.new.items ≡ (if is_ok result then held.old.items ++ bytes.now else held.old.items) }
+{
+    held.reserve(wanted)?;
+    held.extend_from_slice(bytes)?;
+    Ok(())
 }
 
 impl Intake {
@@ -107,9 +117,10 @@ impl Intake {
         ensures expect { self.new.expect ≡ self.old.expect }
         ensures came { self.new.came ≡ self.old.came + result }
     {
-        let n = wanted(&self.held, &self.expect).min(bytes.len());
+        let wanted = wanted(&self.held, &self.expect);
+        let n = wanted.min(bytes.len());
         self.came += n as u64;
-        if self.held.extend_from_slice(&bytes[..n]).is_err() {
+        if extend(&mut self.held, &bytes[..n], wanted).is_err() {
             self.stage = Stage::NoMemory;
         }
         n

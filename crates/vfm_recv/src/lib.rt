@@ -11,3 +11,6 @@ mod reader;
 
 pub use channel_end::ChannelEnd;
 pub use reader::Reader;
+
+#[cfg(test)]
+mod tests;
