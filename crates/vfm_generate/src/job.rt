@@ -5,7 +5,7 @@ ghost use Rattle.vfm_loads.specs.Generated.{peer_bar, count_job, bell_job, rung_
 
 use vfm_types::{Bytes64, Job};
 
-// how many pages a device has of its own, and how many of its jobs count there
+// how many pages a device has of its own
 const OWN_PAGES: u32 = 32;
 
 // bytes of a page, and words of 8 bytes in it
@@ -30,14 +30,11 @@ pub(crate) fn job(n: u32, d: u32, j: u32) -> Job
     requires job { j < 35 }
     ensures { result ≡ load_job n d j }
 {
-    if j < OWN_PAGES {
-        count(n, d, j)
-    } else if j == 32 {
-        bell(d)
-    } else if j == 33 {
-        rung(d)
-    } else {
-        block(n, d)
+    match j {
+        0..=31 => count(n, d, j),
+        32 => bell(d),
+        33 => rung(d),
+        _ => block(n, d),
     }
 }
 

@@ -1,7 +1,8 @@
 //! Numbers of generated loads, worked out by hand.
 
-use crate::generate;
+use crate::{Sums, generate};
 use std::test::Fail;
+use vfm_plain::Plain;
 use vfm_types::{Desc, DevShape, Job};
 
 // device `d`, if there is one
@@ -84,5 +85,22 @@ fn the_greatest_load(rt: HostRuntime) -> Result<(), Fail> {
     assert!(rt; writes(&desc, 7, 34, 268437504, 64, 8));
     assert!(rt; desc.is_in_range());
     assert!(rt; Desc::new(desc).is_ok());
+    Ok(())
+}
+
+#[test]
+fn sums_at_the_start(rt: HostRuntime) -> Result<(), Fail> {
+    let alloc = rt.alloc();
+    let desc = generate(alloc, 7)?;
+    let plain = Plain::of(alloc, &desc)?;
+    let sums = Sums::of(&desc, &plain);
+    assert_eq!(rt;
+        sums,
+        Sums {
+            accepted: 8704,
+            done: 0,
+            lost: 0
+        }
+    );
     Ok(())
 }

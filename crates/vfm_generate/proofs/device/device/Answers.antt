@@ -1,3 +1,4 @@
+-- Member by member.
 use Rattle.std.proofs.Common.{◌∙◌}
 use Rattle.vfm_generate.proofs.Made.{shape_made}
 use Rattle.vfm_generate.proofs.device.device.Goals as goal

@@ -1,3 +1,4 @@
+-- Job by job.
 use Rattle.std.proofs.Common.{arith, ◌∙◌}
 use Rattle.vfm_loads.specs.Generated.{load_job}
 use Rattle.vfm_generate.proofs.Made.{made_more}

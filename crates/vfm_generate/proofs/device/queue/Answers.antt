@@ -1,3 +1,4 @@
+-- Request by request.
 use Rattle.std.proofs.Common.{◌≡◌, arith, ◌∙◌}
 use Rattle.vfm_loads.specs.Generated.{queued_job}
 use Rattle.vfm_generate.proofs.Made.{made_more, queue_made}

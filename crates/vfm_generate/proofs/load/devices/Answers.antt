@@ -1,3 +1,4 @@
+-- Device by device.
 use Rattle.std.proofs.Common.{arith, ◌∙◌}
 use Rattle.vfm_loads.specs.Generated.{load_shape}
 use Rattle.vfm_generate.proofs.Made.{made_more}

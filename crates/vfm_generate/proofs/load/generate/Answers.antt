@@ -1,3 +1,4 @@
+-- Member by member; what is made is the generated load, which is valid.
 use Rattle.std.proofs.Common.{sym, subst, ◌∙◌}
 use Rattle.vfm_types.specs.Valid.{IsValid}
 use Rattle.vfm_loads.proofs.LoadValid.{generated_valid}
