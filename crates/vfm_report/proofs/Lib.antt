@@ -5,4 +5,6 @@ pub mod Joins
 pub mod Blanks
 pub mod HexWords
 pub mod Exact
+pub mod LineLists
+pub mod Steps
 pub mod EntryWords

@@ -9,3 +9,8 @@ pub mod States
 pub mod Entries
 pub mod StateLines
 pub mod Found
+pub mod StatusLine
+pub mod LineList
+pub mod Finding
+pub mod Readers
+pub mod Parts

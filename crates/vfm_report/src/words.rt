@@ -4,6 +4,7 @@ ghost use Rattle.std.specs.Prelude.{◌≡◌, ◌∷◌, [], ◌++◌, MatchOpt
 ghost use Rattle.std.specs.Option.{option_map, option_copied};
 ghost use Rattle.vfm_report.specs.Same.{same_text};
 ghost use Rattle.vfm_report.specs.Split.{is_without, words_of};
+ghost use Rattle.vfm_report.specs.StatusLine.{dotted};
 ghost use Rattle.vfm_report.specs.WordList.{words_left};
 ghost use Rattle.vfm_report.specs.Counted.{no_word, one_word, two_words};
 ghost use Rattle.vfm_report.specs.StateLines.{after_word, number_then};
@@ -33,6 +34,8 @@ pub(crate) fn is_word(word: &[u8], text: &[u8]) -> bool
 #[derive(Clone, Copy)]
 pub(crate) struct Words<'a> {
     rest: Option<&'a [u8]>,
+    // the byte between them
+    between: u8,
 }
 
 impl<'a> Words<'a> {
@@ -40,7 +43,20 @@ impl<'a> Words<'a> {
     pub(crate) fn of(line: &'a [u8]) -> Words<'a>
         ensures { words_left result ≡ words_of line.now }
     {
-        Words { rest: Some(line) }
+        Words {
+            rest: Some(line),
+            between: b' ',
+        }
+    }
+
+    /// The parts of a word between its dots.
+    pub(crate) fn dotted(word: &'a [u8]) -> Words<'a>
+        ensures { words_left result ≡ dotted word.now }
+    {
+        Words {
+            rest: Some(word),
+            between: b'.',
+        }
     }
 
     /// The next word.
@@ -48,7 +64,7 @@ impl<'a> Words<'a> {
         ensures { MatchOption result (words_left self.old ≡ []) (λ word. words_left self.old ≡ word.now ∷ words_left self.new) }
     {
         let rest = self.rest?;
-        match cut(b' ', rest) {
+        match cut(self.between, rest) {
             Some((word, after)) => {
                 self.rest = Some(after);
                 Some(word)
