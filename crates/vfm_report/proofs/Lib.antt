@@ -3,4 +3,8 @@ pub mod Splits
 pub mod Numerals
 pub mod Joins
 pub mod Blanks
+pub mod HexWords
+pub mod Exact
+pub mod LineLists
+pub mod Steps
 pub mod EntryWords

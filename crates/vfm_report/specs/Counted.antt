@@ -15,8 +15,3 @@ one_word _ = None
 abbrev pub two_words : List (List ℕ) → Option (List ℕ × List ℕ)
 two_words (a ∷ b ∷ []) = Some (a, b)
 two_words _ = None
-
--- all three words, where there are three
-abbrev pub three_words : List (List ℕ) → Option (List ℕ × List ℕ × List ℕ)
-three_words (a ∷ b ∷ c ∷ []) = Some (a, b, c)
-three_words _ = None

@@ -1,12 +1,16 @@
 //! The words of a line, one after another.
 
-ghost use Rattle.std.specs.Prelude.{◌≡◌, ◌∷◌, [], ◌++◌, MatchOption, IsTrue, map};
+ghost use Rattle.std.specs.Prelude.{◌≡◌, ◌∷◌, [], ◌++◌, MatchOption, IsTrue, map, decimal};
 ghost use Rattle.std.specs.Option.{option_map, option_copied};
 ghost use Rattle.vfm_report.specs.Same.{same_text};
 ghost use Rattle.vfm_report.specs.Split.{is_without, words_of};
+ghost use Rattle.vfm_report.specs.StatusLine.{dotted};
 ghost use Rattle.vfm_report.specs.WordList.{words_left};
-ghost use Rattle.vfm_report.specs.Counted.{no_word, one_word, two_words, three_words};
+ghost use Rattle.vfm_report.specs.Counted.{no_word, one_word, two_words};
+ghost use Rattle.vfm_report.specs.StateLines.{after_word, number_then};
 
+use crate::number::number;
+use itoa::Buffer;
 use memchr::memchr;
 
 /// What stands before a byte and what after it, or `None` exactly where it doesn't stand there.
@@ -30,6 +34,8 @@ pub(crate) fn is_word(word: &[u8], text: &[u8]) -> bool
 #[derive(Clone, Copy)]
 pub(crate) struct Words<'a> {
     rest: Option<&'a [u8]>,
+    // the byte between them
+    between: u8,
 }
 
 impl<'a> Words<'a> {
@@ -37,7 +43,20 @@ impl<'a> Words<'a> {
     pub(crate) fn of(line: &'a [u8]) -> Words<'a>
         ensures { words_left result ≡ words_of line.now }
     {
-        Words { rest: Some(line) }
+        Words {
+            rest: Some(line),
+            between: b' ',
+        }
+    }
+
+    /// The parts of a word between its dots.
+    pub(crate) fn dotted(word: &'a [u8]) -> Words<'a>
+        ensures { words_left result ≡ dotted word.now }
+    {
+        Words {
+            rest: Some(word),
+            between: b'.',
+        }
     }
 
     /// The next word.
@@ -45,7 +64,7 @@ impl<'a> Words<'a> {
         ensures { MatchOption result (words_left self.old ≡ []) (λ word. words_left self.old ≡ word.now ∷ words_left self.new) }
     {
         let rest = self.rest?;
-        match cut(b' ', rest) {
+        match cut(self.between, rest) {
             Some((word, after)) => {
                 self.rest = Some(after);
                 Some(word)
@@ -85,12 +104,32 @@ impl<'a> Words<'a> {
         Some((first, second))
     }
 
-    /// All three words, where there are three.
-    pub(crate) fn three(mut self) -> Option<(&'a [u8], &'a [u8], &'a [u8])>
-        ensures { option_map (λ p. (p.0.now, p.1.now, p.2.now)) result ≡ three_words (words_left self.entry) }
+    /// The words after the first, where the first is this one.
+    pub(crate) fn after(mut self, text: &[u8]) -> Option<Words<'a>>
+        ensures { option_map words_left result ≡ after_word text.now (words_left self.entry) }
     {
-        let first = self.next()?;
-        let (second, third) = self.two()?;
-        Some((first, second, third))
+        let word = self.next()?;
+        if is_word(word, text) {
+            Some(self)
+        } else {
+            None
+        }
+    }
+
+    /// The words after the first, where the first is this number.
+    pub(crate) fn after_number(self, n: u32) -> Option<Words<'a>>
+        ensures { option_map words_left result ≡ after_word (decimal n) (words_left self.entry) }
+    {
+        let mut digits = Buffer::new();
+        self.after(digits.format(n).as_bytes())
+    }
+
+    /// A number of 32 bits, and the words after it.
+    pub(crate) fn number(mut self) -> Option<(u32, Words<'a>)>
+        ensures { option_map (λ p. (p.0, words_left p.1)) result ≡ number_then (words_left self.entry) }
+    {
+        let word = self.next()?;
+        let n = number(word)?;
+        Some((n, self))
     }
 }
