@@ -1,17 +1,17 @@
 //! The core of a machine on its move: its description, its parts, and the journal of what they did.
 #![tactic(auto)]
 
-mod core;
 mod deliver;
 mod described;
 mod entries;
 mod laws;
+mod machine;
 mod split;
 mod staged;
 mod step;
 
-pub use crate::core::Core;
 pub use laws::{cores_are_plain, staged_cores_are_plain, steps_are_kept};
+pub use machine::Core;
 pub use split::Split;
 
 #[cfg(test)]

@@ -2,7 +2,7 @@
 use Rattle.std.proofs.Common.{sym}
 use Rattle.vfm_parts.proofs.Worlds.{world_first}
 use Rattle.vfm_core.proofs.Follows.{first_kept}
-use Rattle.vfm_core.proofs.core.Core.of.Goals as goal
+use Rattle.vfm_core.proofs.machine.Core.of.Goals as goal
 
 pub invariant_of-result : goal.invariant_of-result
 invariant_of-result c =

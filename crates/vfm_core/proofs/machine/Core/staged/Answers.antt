@@ -1,7 +1,7 @@
 -- The parts of the loaded machine, with the room of a run.
 use Rattle.std.proofs.Common.{refl}
 use Rattle.vfm_core.proofs.Loads.{pages_same, staged_kept, staged_begins}
-use Rattle.vfm_core.proofs.core.Core.staged.Goals as goal
+use Rattle.vfm_core.proofs.machine.Core.staged.Goals as goal
 
 pub invariant_of-result : goal.invariant_of-result
 invariant_of-result c =

@@ -3,7 +3,7 @@ use Rattle.std.proofs.Common.{drop, length, IsTrue, sym, subst, ◌∙◌}
 use Rattle.vfm_plain.specs.Legal.{is_entry_of}
 use Rattle.vfm_core.specs.CoreState.{CoreState, world_with}
 use Rattle.vfm_core.proofs.Kept.{one_more, kept_after, written_back}
-use Rattle.vfm_core.proofs.core.Core.make.Goals as goal
+use Rattle.vfm_core.proofs.machine.Core.make.Goals as goal
 
 pub push-requires : goal.push-requires
 push-requires c =

@@ -6,7 +6,7 @@ use Rattle.vfm_lead.specs.Shown.{Shows}
 use Rattle.vfm_lead.proofs.ShownList.{shown_alike}
 use Rattle.vfm_core.specs.CoreState.{CoreState}
 use Rattle.vfm_core.proofs.ShownWorld.{shows_world}
-use Rattle.vfm_core.proofs.core.Core.look.Goals as goal
+use Rattle.vfm_core.proofs.machine.Core.look.Goals as goal
 
 pub returns-clause-shows : goal.returns-clause-shows
 returns-clause-shows c =

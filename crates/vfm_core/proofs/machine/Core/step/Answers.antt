@@ -7,7 +7,7 @@ use Rattle.vfm_plain.specs.Rules.{fault_of}
 use Rattle.vfm_parts.specs.Steps.{fault_on}
 use Rattle.vfm_core.proofs.Follows.{follows, rule_is, staged_fine, staged_goes_on, staged_refused}
 use Rattle.vfm_core.proofs.Outcomes.{at_ok, matched, matched_ok}
-use Rattle.vfm_core.proofs.core.Core.step.Goals as goal
+use Rattle.vfm_core.proofs.machine.Core.step.Goals as goal
 
 pub returns-clause-rule : goal.returns-clause-rule
 returns-clause-rule c = λ past is.
