@@ -1,5 +1,5 @@
 -- What a valid description says of a job of a device.
-use Rattle.std.proofs.Common.{◌≡◌, ℕ, ◌<◌, ◌≤◌, length}
+use Rattle.std.proofs.Common.{ℕ, ◌<◌, length}
 use Rattle.vfm_types.specs.declared.desc.Desc.{Desc}
 use Rattle.vfm_types.specs.Desc.{device_count, job_at, shape_at}
 use Rattle.vfm_types.specs.Job.{length_of, place_of}

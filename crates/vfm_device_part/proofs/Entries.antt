@@ -1,14 +1,13 @@
 -- The steps of a device as entries over all parts.
-use Rattle.std.proofs.Common.{◌≡◌, ℕ, ◌==◌, Bool, true, false, if◌then◌else◌, List, refl, sym, ap, ◌∙◌, subst, eqb-true}
+use Rattle.std.proofs.Common.{◌≡◌, ℕ, ◌==◌, Bool, true, false, if◌then◌else◌, List, refl, sym, ap, ◌∙◌, eqb-true}
 use Rattle.std.proofs.lemmas.Bool.{false≢true}
 use Rattle.vfm_types.specs.declared.desc.Desc.{Desc}
 use Rattle.vfm_types.specs.declared.entry.Entry.{Entry}
 use Rattle.vfm_types.specs.declared.entry.Entry.TheVariants.{Issue, Deliver, Complete, Hold, Arc, Fail, Report, Pass, Copy, Block, Dry, Begin, Joint, Abort, Resume}
-use Rattle.vfm_types.specs.declared.job.Job.{Job}
 use Rattle.vfm_types.specs.declared.job.Region.{Region}
 use Rattle.vfm_types.specs.declared.job.Region.TheVariants.{Bar, Page}
 use Rattle.vfm_types.specs.Job.{is_bar_of, is_page}
-use Rattle.vfm_parts.specs.Parts.{Dev, Lead, Parts}
+use Rattle.vfm_parts.specs.Parts.{Dev, Parts}
 use Rattle.vfm_parts.specs.DeliverStep.{delivered_dev, job_in, page_after_job, region_bytes_in, region_of_job, struck_dev}
 use Rattle.vfm_parts.specs.Steps.{dev_after, fault_in, lead_after, page_after, with_dev}
 use Rattle.vfm_device_part.specs.DeviceSteps.{is_own_of, is_step_of, own_after, own_fault, with_page}

@@ -1,5 +1,5 @@
 -- A part still fits after each step of the move on it.
-use Rattle.std.proofs.Common.{◌≡◌, ℕ, ◌+◌, ◌<◌, ◌≤◌, ◌==◌, ◌&&◌, not, Bool, List, [], subst, arith}
+use Rattle.std.proofs.Common.{ℕ, ◌<◌, ◌≤◌, ◌==◌, ◌&&◌, not, subst, arith}
 use Rattle.std.proofs.lemmas.List.{get_or-map}
 use Rattle.vfm_base.specs.PageSet.{contains_page}
 use Rattle.vfm_types.specs.declared.desc.Desc.{Desc}

@@ -1,5 +1,5 @@
 -- What a job makes of the part of the device that it is aimed at, kind by kind.
-use Rattle.std.proofs.Common.{◌≡◌, ℕ, ◌+◌, ◌<◌, ◌≤◌, ◌==◌, ◌&&◌, not, Bool, true, false, if◌then◌else◌, List, length, take, drop, refl, sym, ap, ◌∙◌, subst, eq-eqb, arith}
+use Rattle.std.proofs.Common.{◌≡◌, ℕ, ◌+◌, ◌<◌, ◌≤◌, ◌&&◌, not, Bool, true, false, if◌then◌else◌, List, length, take, drop, refl, sym, ap, ◌∙◌, subst, eq-eqb, arith}
 use Rattle.std.specs.Prelude.{IsTrue}
 use Rattle.std.proofs.lemmas.List.{length-take}
 use Rattle.std.specs.Int.{w64, from_le_bytes}
@@ -11,7 +11,7 @@ use Rattle.vfm_types.specs.declared.job.Place.{Place}
 use Rattle.vfm_types.specs.declared.job.Region.TheVariants.{Bar}
 use Rattle.vfm_types.specs.Desc.{bar_bytes, device_count, shape_at}
 use Rattle.vfm_types.specs.Job.{is_bar_of, is_bell, is_doorbell, is_writer, length_of, may_ring, place_of}
-use Rattle.vfm_types.specs.Machine.{DeviceState, added, splice}
+use Rattle.vfm_types.specs.Machine.{added, splice}
 use Rattle.vfm_types.specs.Valid.{IsValid, is_job_in_range}
 use Rattle.vfm_plain.proofs.Sound.{some_bytes}
 use Rattle.vfm_parts.specs.Parts.{Dev}

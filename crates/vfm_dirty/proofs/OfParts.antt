@@ -1,5 +1,5 @@
 -- The mark of a completed request, as the entry makes it of a device's part.
-use Rattle.std.proofs.Common.{◌≡◌, ℕ, ◌<◌, ◌≤◌, ◌==◌, ◌&&◌, ◌||◌, Bool, true, false, if◌then◌else◌, List, Option, Some, None, refl, sym, ap, ◌∙◌, arith}
+use Rattle.std.proofs.Common.{◌≡◌, ℕ, ◌<◌, ◌≤◌, ◌==◌, ◌&&◌, ◌||◌, Bool, true, false, if◌then◌else◌, List, None, refl, sym, ap, ◌∙◌, arith}
 use Rattle.vfm_base.specs.PageSet.{contains_page, pages_where}
 use Rattle.vfm_base.proofs.NumbersWhere.{contains-numbers_where_above}
 use Rattle.vfm_types.specs.declared.desc.Desc.{Desc}

@@ -1,13 +1,13 @@
 -- What is written into BARs and read of them, as the entries make it of a device's part.
-use Rattle.std.proofs.Common.{◌≡◌, ℕ, ◌+◌, ◌*◌, ◌/◌, ◌<◌, ◌≤◌, ◌==◌, ◌%◌, ◌&&◌, ◌||◌, not, Bool, true, false, nat_lt, if◌then◌else◌, List, refl, sym, ap, ◌∙◌, subst, arith}
+use Rattle.std.proofs.Common.{◌≡◌, ℕ, ◌+◌, ◌*◌, ◌<◌, ◌≤◌, ◌==◌, ◌&&◌, ◌||◌, not, Bool, true, false, nat_lt, if◌then◌else◌, List, refl, sym, ap, ◌∙◌, arith}
 use Rattle.std.specs.Prelude.{IsTrue}
 use Rattle.std.proofs.lemmas.Bool.{le-ltb, lt-ltb}
-use Rattle.vfm_base.specs.PageSet.{contains_page, numbers_where, pages_where}
+use Rattle.vfm_base.specs.PageSet.{contains_page, pages_where}
 use Rattle.vfm_base.proofs.NumbersWhere.{contains-numbers_where_above}
 use Rattle.vfm_types.specs.declared.desc.Desc.{Desc}
 use Rattle.vfm_types.specs.declared.job.Job.{Job}
 use Rattle.vfm_types.specs.Desc.{bar_bytes, block_count, device_count, shape_at}
-use Rattle.vfm_types.specs.Job.{is_bar_of, is_doorbell, is_writer, length_of, place_of}
+use Rattle.vfm_types.specs.Job.{is_writer, length_of, place_of}
 use Rattle.vfm_types.specs.Blocks.{writes_block}
 use Rattle.vfm_types.specs.Valid.{IsValid, is_job_in_range}
 use Rattle.vfm_types.proofs.BarSizes.{IsBarSize, all_bars}

@@ -1,4 +1,4 @@
-use Rattle.std.proofs.Common.{◌≡◌, ◌<◌, arith}
+use Rattle.std.proofs.Common.{arith}
 use Rattle.vfm_device_part.proofs.MoveFits.{first_dev_fits}
 use Rattle.vfm_device_part.proofs.tests.parts_of.Goals as goal
 

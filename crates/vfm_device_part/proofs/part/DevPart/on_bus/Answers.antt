@@ -1,4 +1,4 @@
-use Rattle.std.proofs.Common.{◌+◌, ◌≤◌, ap, sym, ◌∙◌, arith, length}
+use Rattle.std.proofs.Common.{ap, sym, ◌∙◌, arith}
 use Rattle.vfm_types.specs.Outstanding.{delivered_count, undelivered_count}
 use Rattle.vfm_parts.specs.Parts.{Dev}
 use Rattle.vfm_device.proofs.Turns.{counts_add}

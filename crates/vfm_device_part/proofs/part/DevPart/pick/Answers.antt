@@ -1,4 +1,4 @@
-use Rattle.std.proofs.Common.{◌≡◌, ◌+◌, ◌-◌, ◌%◌, ◌<◌, ◌≤◌, length, ap, refl, sym, ◌∙◌, arith}
+use Rattle.std.proofs.Common.{◌≡◌, ◌+◌, ◌-◌, ◌%◌, length, ap, refl, sym, ◌∙◌, arith}
 use Rattle.vfm_device_part.specs.Pick.{completions, deliveries, entry_at, issue_if_allowed}
 use Rattle.vfm_device_part.proofs.Picks.{picked_first, picked_second, picked_third}
 use Rattle.vfm_device_part.proofs.part.DevPart.pick.Goals as goal

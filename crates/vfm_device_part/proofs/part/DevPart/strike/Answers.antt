@@ -1,4 +1,4 @@
-use Rattle.vfm_device_part.proofs.Struck.{Strikes, struck_add, struck_read, struck_store, struck_write}
+use Rattle.vfm_device_part.proofs.Struck.{struck_add, struck_read, struck_store, struck_write}
 use Rattle.vfm_device_part.proofs.part.DevPart.strike.Goals as goal
 
 pub returns-in-Write : goal.returns-in-Write

@@ -1,4 +1,4 @@
-use Rattle.std.proofs.Common.{subst, ap}
+use Rattle.std.proofs.Common.{subst}
 use Rattle.std.specs.Prelude.{Option, ℕ}
 use Rattle.vfm_dirty.specs.LogOfParts.{IsPageOf}
 use Rattle.vfm_device_part.proofs.Completed.{completed_is}
