@@ -6,6 +6,7 @@ mod deliver;
 mod described;
 mod entries;
 mod laws;
+mod same;
 mod split;
 mod staged;
 mod step;
