@@ -1,6 +1,7 @@
 //! The core of a machine on its move: its description, its parts, and the journal of what they did.
 #![tactic(auto)]
 
+mod copy;
 mod core;
 mod deliver;
 mod described;
