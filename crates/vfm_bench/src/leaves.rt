@@ -89,7 +89,6 @@ fn issue(engine: &mut Engine, desc: &Desc, d: DeviceId) -> Option<u32>
 }
 
 // delivers a request that waits for it
-#[tactic(auto, using(vfm_device::proofs::Kept::undelivered_pending))]
 fn deliver(engine: &mut Engine, desc: &Desc, d: DeviceId, n: u32) -> bool
     requires { EngineKept desc.now d engine.old }
     ensures { EngineKept desc.now d engine.new }

@@ -83,7 +83,6 @@ fn issue(engine: &mut Engine, desc: &Desc, begun: bool) -> Option<u32>
 }
 
 // Delivers a request that waits for it.
-#[tactic(auto, using(crate::proofs::Kept::undelivered_pending))]
 fn deliver(engine: &mut Engine, desc: &Desc, n: u32) -> bool
     requires { EngineKept desc.now 0 engine.old }
     ensures { EngineKept desc.now 0 engine.new }
@@ -111,7 +110,6 @@ fn complete(engine: &mut Engine, desc: &Desc, n: u32) -> bool
 }
 
 // Rings the doorbell.
-#[tactic(auto, using(crate::proofs::Kept::kept_rung))]
 fn ring(engine: &mut Engine, desc: &Desc, number: u64) -> bool
     requires valid { IsValid desc.now }
     requires kept { EngineKept desc.now 0 engine.old }

@@ -1,5 +1,6 @@
 -- A request that waits for its delivery: it is pending, and aimed at a region that is there.
-use Rattle.std.proofs.Common.{◌≡◌, ℕ, ◌+◌, ◌<◌, ◌≤◌, true, false, Some, None, length, refl, subst, ap, ◌∙◌}
+use Rattle.std.proofs.Common.{◌≡◌, ℕ, ◌+◌, ◌<◌, ◌≤◌, Bool, true, false, if◌then◌else◌, [], ◌∷◌, Some, None, length, refl, sym, subst, ap, ◌∙◌}
+use Rattle.std.proofs.lemmas.Option.{none-some, same_Some}
 use Rattle.vfm_base.specs.Tests.{first_failed}
 use Rattle.vfm_types.specs.declared.desc.Desc.{Desc}
 use Rattle.vfm_types.specs.declared.job.Region.{Region}
@@ -18,7 +19,7 @@ use Rattle.vfm_parts.specs.Parts.{Dev}
 use Rattle.vfm_parts.specs.Fits.{DevFits}
 use Rattle.vfm_parts.specs.DeliverStep.{deliver_conditions_in, job_in, region_of_job}
 use Rattle.vfm_parts_laws.proofs.FittingQueues.{job_exists, job_lies, job_sound}
-use Rattle.vfm_device_part.specs.DeviceSteps.{IsTarget}
+use Rattle.vfm_device_part.specs.DeviceSteps.{IsTarget, target_in}
 
 pub waits_fine : (n : ℕ) (dev : Dev) → is_undelivered n dev.requests ≡ true → first_failed (deliver_conditions_in n dev) ≡ None
 waits_fine n dev waits = rw waits refl
@@ -48,3 +49,17 @@ lies_in_bar D t offset len region is lies = (subst (λ (r : Region). LiesIn D r 
 
 pub lies_in_page : (D : Desc) (p offset len : ℕ) (region : Region) → region ≡ Page p → LiesIn D region offset len → offset + len ≤ D.page
 lies_in_page D p offset len region is lies = (subst (λ (r : Region). LiesIn D r offset len) is lies).1
+
+pub aimed_is : (D : Desc) (d n : ℕ) (dev : Dev) (region : Region) → target_in D d n dev ≡ Some region → region_of_job D (job_in D d n dev) ≡ region
+aimed_is D d n dev region is = go (is_undelivered n dev.requests) is
+  where
+    go : (b : Bool) → (if b then Some (region_of_job D (job_in D d n dev)) else None) ≡ Some region → region_of_job D (job_in D d n dev) ≡ region
+    go true h = same_Some (region_of_job D (job_in D d n dev)) region h
+    go false h = absurd (none-some region h)
+
+pub aimless_turn : (D : Desc) (d n : ℕ) (dev : Dev) → target_in D d n dev ≡ None → first_failed (deliver_conditions_in n dev) ≡ Some Turn
+aimless_turn D d n dev is = go (is_undelivered n dev.requests) is
+  where
+    go : (b : Bool) → (if b then Some (region_of_job D (job_in D d n dev)) else None) ≡ None → first_failed ((b, Turn) ∷ []) ≡ Some Turn
+    go true h = absurd (none-some (region_of_job D (job_in D d n dev)) (sym h))
+    go false h = refl

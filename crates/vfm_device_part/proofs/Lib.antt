@@ -5,3 +5,6 @@ pub mod Completed
 pub mod Deliveries
 pub mod Struck
 pub mod Picks
+pub mod AllowedSteps
+pub mod Entries
+pub mod MoveFits

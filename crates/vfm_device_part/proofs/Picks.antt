@@ -20,12 +20,12 @@ entry_of make (Some n) = Some (make n)
 
 -- ---- places
 
-at_front : (xs ys : List Entry) (k : ℕ) → k < length xs → entry_at (xs ++ ys) k ≡ entry_at xs k
+pub at_front : (xs ys : List Entry) (k : ℕ) → k < length xs → entry_at (xs ++ ys) k ≡ entry_at xs k
 at_front [] ys k within = absurd (omega arith)
 at_front (x ∷ xs) ys zero within = refl
 at_front (x ∷ xs) ys (suc k) within = at_front xs ys k (omega arith)
 
-at_back : (xs ys : List Entry) (k : ℕ) → length xs ≤ k → entry_at (xs ++ ys) k ≡ entry_at ys (k - length xs)
+pub at_back : (xs ys : List Entry) (k : ℕ) → length xs ≤ k → entry_at (xs ++ ys) k ≡ entry_at ys (k - length xs)
 at_back [] ys k past = let same : k ≡ k - 0 = omega arith in ap (entry_at ys) same
 at_back (x ∷ xs) ys zero past = absurd (omega arith)
 at_back (x ∷ xs) ys (suc k) past = let same : k - length xs ≡ suc k - length (x ∷ xs) = omega arith in at_back xs ys k (omega arith) ∙ ap (entry_at ys) same

@@ -73,3 +73,7 @@ IsTarget D d (Bar t) = (t < device_count D) × ((t == d) ≡ false)
 -- the delivery, where it is allowed, is aimed at this region
 abbrev pub IsAimed : Desc → Entry → Dev → Region → Type 0
 IsAimed D entry dev region = own_fault D entry dev ≡ None → region_of_job D (delivered_job D entry dev) ≡ region
+
+-- page p with these bytes, and every other one as it was
+abbrev pub with_page : ℕ → List ℕ → (ℕ → List ℕ) → ℕ → List ℕ
+with_page p bytes pages q = if p == q then bytes else pages q
