@@ -24,6 +24,20 @@ const STRIDE: u64 = 65_536;
 pub fn sized_description(alloc: Global, requests: u32) -> Result<Desc>
     ensures { IfOk result IsValid }
 {
+    description(alloc, requests, 0, 0)
+}
+
+/// The same machine, which is moved once three quarters of its requests are done, with up to three passes while it runs.
+pub fn moved_description(alloc: Global, requests: u32) -> Result<Desc>
+    ensures { IfOk result IsValid }
+{
+    description(alloc, requests, requests - requests / 4, 3)
+}
+
+// the machine with so many requests of each device done before its move, and so many passes before its devices stop
+fn description(alloc: Global, requests: u32, begin: u32, rounds: u32) -> Result<Desc>
+    ensures { IfOk result IsValid }
+{
     let devices = shapes(alloc, requests)?;
     let desc = Desc {
         session: 1,
@@ -31,8 +45,8 @@ pub fn sized_description(alloc: Global, requests: u32) -> Result<Desc>
         pages: 256,
         channels: 1,
         version: 1,
-        begin: 0,
-        rounds: 0,
+        begin,
+        rounds,
         threshold: 0,
         devices,
     };

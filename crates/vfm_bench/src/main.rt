@@ -1,11 +1,14 @@
 //! Does every request of a machine of eight devices in order, and prints how many were done. `tools/bench` times it.
 //!
-//! Its words are `N`, `engines N` or `bars N`, or none. N is 0 to 50,000. `N`, which is 16 where it is left out, is the number
+//! Its words are `N`, `engines N`, `bars N`, `core N` or `again N`, or none. N is 0 to 50,000. `N`, which is 16 where it is left out, is the number
 //! of requests of each device. `engines N` makes them by the engines of the devices, and prints how many steps these were.
-//! `bars N` makes N thousand writes to the BARs of a device, and prints how many blocks are dirty then.
+//! `bars N` makes N thousand writes to the BARs of a device, and prints how many blocks are dirty then. `core N` drives a core of
+//! eight devices with N requests each through a move with passes, and prints how many entries its journal has; `again N` makes
+//! these entries once more besides, on another core.
 #![tactic(auto)]
 
 mod case;
+mod drive;
 mod leaves;
 mod run;
 
@@ -46,6 +49,10 @@ enum Way {
     Engines,
     // writes to BARs
     Bars,
+    // entries of a core that is driven through a move
+    Core,
+    // the same, and its journal made again
+    Again,
 }
 
 // what the command line asks for, and how much of it
@@ -60,6 +67,8 @@ fn asked(rt: &(impl Env + AllocGlobal)) -> Result<(Way, u32)>
     let way = match first.as_str() {
         "engines" => Way::Engines,
         "bars" => Way::Bars,
+        "core" => Way::Core,
+        "again" => Way::Again,
         _ => Way::Plain,
     };
     let word = if way == Way::Plain {
@@ -102,6 +111,15 @@ fn main(rt: HostRuntime) -> Result<()> {
         Way::Bars => {
             let dirty = leaves::dirty_blocks(alloc, number)?;
             println!(rt; "dirty {dirty}")?;
+        }
+        Way::Core => {
+            let core = drive::driven(alloc, number)?;
+            println!(rt; "entries {}", core.journal().len())?;
+        }
+        Way::Again => {
+            let core = drive::driven(alloc, number)?;
+            let again = drive::made_again(alloc, number, &core)?;
+            println!(rt; "entries {}", again.journal().len())?;
         }
     }
     Ok(())

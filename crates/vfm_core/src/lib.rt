@@ -2,18 +2,18 @@
 #![tactic(auto)]
 
 mod copy;
-mod core;
 mod deliver;
 mod described;
 mod entries;
 mod laws;
+mod machine;
 mod same;
 mod split;
 mod staged;
 mod step;
 
-pub use crate::core::Core;
 pub use laws::{cores_are_plain, staged_cores_are_plain, steps_are_kept};
+pub use machine::Core;
 pub use split::Split;
 
 #[cfg(test)]

@@ -1,6 +1,6 @@
-//! A list of entries whose room is taken once, so that no later entry can want memory.
+//! A list of entries whose room is taken once, so that no later entry can want memory; or that grows.
 
-ghost use Rattle.std.specs.Prelude.{◌≡◌, ℕ, ◌<◌, ◌≤◌, ◌^◌, ◌↔◌, List, [], ◌∷◌, ◌++◌, length, Some, slice_get, IfOk, IsTrue};
+ghost use Rattle.std.specs.Prelude.{◌≡◌, ℕ, ◌<◌, ◌≤◌, ◌^◌, ◌↔◌, List, [], ◌∷◌, ◌++◌, length, Some, slice_get, IfOk, OnOk, OnErr, IsTrue, ◌+◌, max};
 ghost use Rattle.vfm_types.specs.declared.entry.Entry.{Entry as Item};
 
 use std::alloc::Global;
@@ -47,6 +47,22 @@ impl Journal {
         ensures room { self.new.room ≡ self.old.room }
     {
         self.entries.push_reserved(entry);
+    }
+
+    /// Adds an entry after the others, and takes memory where no room is left. Where there is none, the journal stays
+    /// as it is.
+    pub fn push_growing(&mut self, entry: Entry) -> Result<(), NoMemory>
+        ensures entries { OnOk result (self.new.entries ≡ self.old.entries ++ entry ∷ []) }
+        ensures room { OnOk result (self.new.room ≡ max self.old.room (length self.old.entries + 1)) }
+        ensures same { OnErr result (self.new ≡ self.old) }
+    {
+        match self.entries.push(entry) {
+            Ok(()) => {
+                self.room = self.room.max(self.entries.len());
+                Ok(())
+            }
+            Err(_) => Err(NoMemory),
+        }
     }
 
     /// How many entries there are.

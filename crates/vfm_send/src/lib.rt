@@ -13,6 +13,7 @@ mod sending;
 
 pub use lanes::lane;
 pub use sender::Sender;
+pub use sending::send_bytes;
 
 #[cfg(test)]
 mod tests;

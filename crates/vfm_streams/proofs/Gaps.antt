@@ -41,7 +41,7 @@ ap_one : (n : ℕ) (b : Bool) → b ≡ true → 0 < n + (if b then 1 else 0)
 ap_one n true is = omega arith
 ap_one n false is = absurd (false≢true is)
 
-times_top : (packets : List Packet) (t : ℕ) → top packets ≡ suc t → 0 < times t packets
+pub times_top : (packets : List Packet) (t : ℕ) → top packets ≡ suc t → 0 < times t packets
 times_top [] t is = absurd (omega arith)
 times_top (p ∷ packets) t is =
     ⊎_elim
@@ -52,7 +52,7 @@ times_top (p ∷ packets) t is =
     ap_one (times t packets) (p.head.index == t) (eq-eqb p.head.index t index))
     (cases_lt (p.head.index + 1) (top packets))
 
-below_top : (packets : List Packet) (i : ℕ) → 0 < times i packets → i < top packets
+pub below_top : (packets : List Packet) (i : ℕ) → 0 < times i packets → i < top packets
 below_top [] i some = absurd (omega arith)
 below_top (p ∷ packets) i some =
     by_bool (p.head.index == i) (λ b. (p.head.index == i) ≡ b → 0 < times i packets + (if b then 1 else 0) → i < max (p.head.index + 1) (top packets))

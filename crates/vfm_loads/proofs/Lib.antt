@@ -1,0 +1,11 @@
+pub mod Parts
+pub mod Places
+pub mod LoadValid
+pub mod SerialRun
+pub mod Numbers
+pub mod Waiting
+pub mod Progress
+pub mod Turns
+pub mod TurnEffects
+pub mod AllOrders
+pub mod VariantsValid

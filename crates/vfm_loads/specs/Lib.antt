@@ -1,0 +1,5 @@
+pub mod Generated
+pub mod Sums
+pub mod Still
+pub mod Orders
+pub mod Variants

@@ -1,0 +1,40 @@
+//! The payload of a packet, in the memory into which the packet was read.
+
+ghost use Rattle.std.specs.Prelude.{◌≡◌, ◌≤◌, drop, vec_len};
+
+use std::marker::Model;
+
+/// Bytes that stand in a vector, of which the first may be left aside. So a packet's payload needs no copy of its own: it
+/// stays where the packet was read, after its header. Seen as the list of the bytes.
+#[derive(Debug, Drop)]
+pub struct Bytes {
+    list: Vec<u8>,
+    from: usize,
+}
+
+impl Model for Bytes {
+    ghost use Rattle.std.specs.Prelude.{ℕ, List, drop, vec_len, ◌≤◌};
+
+    ghost Value = { List ℕ };
+
+    ghost view = { λ b. drop b.from b.list.items };
+
+    ghost invariant = { λ b. b.from ≤ vec_len b.list };
+}
+
+impl Bytes {
+    /// The bytes of the list from a place on. Takes no memory.
+    pub fn of(list: Vec<u8>, from: usize) -> Bytes
+        requires { from ≤ vec_len list }
+        ensures { result ≡ drop from list.items }
+    {
+        Bytes { list, from }
+    }
+
+    /// Lends the bytes.
+    pub fn lent(&self) -> &[u8]
+        ensures { result.now ≡ self.now }
+    {
+        &self.list[self.from..]
+    }
+}

@@ -1,0 +1,5 @@
+pub mod Exact
+pub mod Handed
+pub mod Intakes
+pub mod Pumped
+pub mod Readers

@@ -1,0 +1,16 @@
+pub mod Same
+pub mod Maybe
+pub mod Split
+pub mod WordList
+pub mod Counted
+pub mod Numbers
+pub mod HexWord
+pub mod States
+pub mod Entries
+pub mod StateLines
+pub mod Found
+pub mod StatusLine
+pub mod LineList
+pub mod Finding
+pub mod Readers
+pub mod Parts

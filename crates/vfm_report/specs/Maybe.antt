@@ -1,0 +1,8 @@
+-- A step after a step that may have no result.
+use Rattle.std.specs.Prelude.{Option, Some, None}
+
+-- the next step, where the one before has a result
+infixl 10 ◌>>=◌
+abbrev pub ◌>>=◌ : {A B : Type 0} → Option A → (A → Option B) → Option B
+None >>= f = None
+(Some x) >>= f = f x
