@@ -7,3 +7,4 @@ pub mod Follows
 pub mod ShownWorld
 pub mod Machines
 pub mod Loads
+pub mod Copies

@@ -1,6 +1,6 @@
 -- The machine in a core's parts is that of its list.
 use Rattle.std.proofs.Common.{◌≡◌, ℕ, ◌<◌, List, [], length, map, reverse, Some, slice_index_or, ap, ap₂, sym, ◌∙◌}
-use Rattle.std.proofs.lemmas.List.{length-map}
+use Rattle.std.proofs.lemmas.List.{length-map, get_or_default}
 use Rattle.std.proofs.Math.ListN.{get_or-map}
 use Rattle.vfm_laws.proofs.Cleanness.{legal_clean}
 use Rattle.vfm_laws.proofs.Enabled.{machine_sound, plain_exists}
@@ -54,3 +54,10 @@ staged_clean D past w fit is = legal_clean D fit.valid past is.legal
 
 pub staged_plain : (D : Desc) (past : List Entry) (w : World) → FitsDesc D w → IsStagedOn D past w → plain D (delivers (reverse past)) ≡ Some (machine_in w)
 staged_plain D past w fit is = plain_exists D fit.valid past is.legal ∙ ap Some (sym (staged_machine D past w fit is))
+
+-- the plain states of equal lists of them are equal one by one
+pub plain_at : (xs ys : List Dev) (d : ℕ) (x y : Dev) → d < length xs → d < length ys → map plain_of xs ≡ map plain_of ys
+    → (slice_index_or xs d x).plain ≡ (slice_index_or ys d y).plain
+plain_at xs ys d x y h k same =
+    ap plain_of (get_or_default xs d x no_dev h) ∙ sym (get_or-map plain_of xs d no_dev) ∙ ap (λ (list : List DeviceState). slice_index_or list d no_device) same
+    ∙ get_or-map plain_of ys d no_dev ∙ ap plain_of (sym (get_or_default ys d y no_dev k))

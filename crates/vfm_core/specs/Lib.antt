@@ -3,3 +3,4 @@ pub mod Delivered
 pub mod Split
 pub mod Machines
 pub mod Loaded
+pub mod Copied

@@ -1,11 +1,13 @@
 //! The core of a machine on its move: its description, its parts, and the journal of what they did.
 #![tactic(auto)]
 
+mod copy;
 mod deliver;
 mod described;
 mod entries;
 mod laws;
 mod machine;
+mod same;
 mod split;
 mod staged;
 mod step;
