@@ -7,8 +7,8 @@
 
 mod bytes;
 mod fan;
+mod feed;
 mod funnel;
-mod lane;
 mod mesh;
 mod parcel;
 mod rest;
