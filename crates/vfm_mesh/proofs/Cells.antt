@@ -3,7 +3,7 @@ use Rattle.std.proofs.Common.{◌≡◌, ◌∙◌, refl, sym, ap, subst, ℕ, z
 use Rattle.std.proofs.lemmas.Bool.{cases_eq}
 use Rattle.std.proofs.lemmas.List.{map-set, get_or-set_other}
 use Rattle.std.specs.List.{AllByRecursion}
-use Rattle.vfm_mesh.specs.declared.lane.Lane.{Lane}
+use Rattle.vfm_mesh.specs.declared.feed.Feed.{Feed}
 use Rattle.vfm_mesh.specs.declared.fan.Fan.{Fan}
 use Rattle.vfm_mesh.specs.Meshes.{cell}
 use Rattle.vfm_mesh.proofs.RowLemmas.{read-at, read-set}
@@ -60,9 +60,9 @@ rows-none [] row h none (suc s) k = refl
 rows-none (r ∷ rows) row h none zero k = h 0 k
 rows-none (r ∷ rows) row h none (suc s) k = rows-none rows row (λ t. h (suc t)) none s k
 
--- fans without lanes have nothing of any
-pub none-at : {X : Type 0} (g : Lane → X) (fans : List Fan) → AllByRecursion (λ fan. fan.lanes.items ≡ []) fans
-    → (k : ℕ) → slice_index_or (map (λ fan. map g fan.lanes.items) fans) k [] ≡ []
+-- fans without feeds have nothing of any
+pub none-at : {X : Type 0} (g : Feed → X) (fans : List Fan) → AllByRecursion (λ fan. fan.feeds.items ≡ []) fans
+    → (k : ℕ) → slice_index_or (map (λ fan. map g fan.feeds.items) fans) k [] ≡ []
 none-at g [] all k = refl
 none-at g (fan ∷ fans) all zero = ap (map g) all.0
 none-at g (fan ∷ fans) all (suc k) = none-at g fans all.1 k

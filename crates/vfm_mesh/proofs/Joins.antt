@@ -2,7 +2,7 @@
 use Rattle.std.proofs.Common.{◌≡◌, ◌∙◌, refl, sym, ap, subst, ℕ, zero, suc, ◌<◌, ◌≤◌, List, [], ◌∷◌, ◌++◌, length, take, drop, slice_index_or, slice_set, arith, ⊎_elim}
 use Rattle.std.proofs.lemmas.Bool.{cases_lt}
 use Rattle.std.proofs.lemmas.List.{length-append, get_or_append_left}
-use Rattle.vfm_mesh.specs.Lanes.{RingId}
+use Rattle.vfm_mesh.specs.Feeds.{RingId}
 use Rattle.vfm_mesh.specs.Meshes.{appended, IsStream, AreJoined}
 
 pub length-appended : {X : Type 0} (rows : List (List X)) (xs : List X) → length (appended rows xs) ≡ length rows

@@ -5,7 +5,7 @@ use Rattle.rtrb.specs.declared.producer.Producer.{Producer}
 use Rattle.rtrb.specs.declared.consumer.Consumer.{Consumer}
 use Rattle.std.specs.List.{AllByRecursion}
 use Rattle.rtrb.specs.Ring.{IsPair, SameProducer, SameConsumer}
-use Rattle.vfm_mesh.specs.Lanes.{producer_ring, consumer_ring}
+use Rattle.vfm_mesh.specs.Feeds.{producer_ring, consumer_ring}
 use Rattle.std.proofs.lemmas.List.{map-set, get_or-map, get_or-set_same, length-map}
 use Rattle.std.proofs.Math.Seq.{map-set_same}
 

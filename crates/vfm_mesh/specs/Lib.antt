@@ -1,3 +1,3 @@
-pub mod Lanes
+pub mod Feeds
 pub mod Rows
 pub mod Meshes

@@ -4,7 +4,7 @@ use Rattle.vfm_mesh.specs.declared.parcel.Parcel.{Parcel}
 use Rattle.vfm_mesh.specs.declared.fan.Fan.{Fan}
 use Rattle.vfm_mesh.specs.declared.funnel.Funnel.{Funnel}
 use Rattle.vfm_mesh.specs.declared.rest.Rest.{Rest}
-use Rattle.vfm_mesh.specs.Lanes.{RingId}
+use Rattle.vfm_mesh.specs.Feeds.{RingId}
 use Rattle.vfm_mesh.specs.Rows.{all_given, all_kept, all_free, fan_rings, all_taken, all_known, funnel_rings}
 
 -- the list in a row and a column

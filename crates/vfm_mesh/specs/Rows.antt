@@ -5,15 +5,15 @@ use Rattle.vfm_mesh.specs.declared.parcel.Parcel.{Parcel}
 use Rattle.vfm_mesh.specs.declared.parcel.Parcel.TheVariants.{Close}
 use Rattle.vfm_mesh.specs.declared.fan.Fan.{Fan}
 use Rattle.vfm_mesh.specs.declared.funnel.Funnel.{Funnel}
-use Rattle.vfm_mesh.specs.Lanes.{RingId, lane_given, lane_kept, lane_free, lane_ring, consumer_ring}
+use Rattle.vfm_mesh.specs.Feeds.{RingId, feed_given, feed_kept, feed_free, feed_ring, consumer_ring}
 
 -- how many streams a fan has
 abbrev pub stream_count : Fan → ℕ
-stream_count fan = length fan.lanes.items
+stream_count fan = length fan.feeds.items
 
 -- what a fan was given, for each stream
 abbrev pub all_given : Fan → List (List Parcel)
-all_given fan = map lane_given fan.lanes.items
+all_given fan = map feed_given fan.feeds.items
 
 -- what a fan was given for a stream, oldest first
 abbrev pub given : Fan → ℕ → List Parcel
@@ -21,7 +21,7 @@ given fan s = slice_index_or (all_given fan) s []
 
 -- what a fan keeps, for each stream
 abbrev pub all_kept : Fan → List (List Parcel)
-all_kept fan = map lane_kept fan.lanes.items
+all_kept fan = map feed_kept fan.feeds.items
 
 -- what a fan keeps of a stream while its ring is full
 abbrev pub kept : Fan → ℕ → List Parcel
@@ -29,7 +29,7 @@ kept fan s = slice_index_or (all_kept fan) s []
 
 -- how many slots of its rings the fan knows to be free, for each stream
 abbrev pub all_free : Fan → List ℕ
-all_free fan = map lane_free fan.lanes.items
+all_free fan = map feed_free fan.feeds.items
 
 -- how many slots of a stream's ring the fan knows to be free
 abbrev pub free_slots : Fan → ℕ → ℕ
@@ -37,7 +37,7 @@ free_slots fan s = slice_index_or (all_free fan) s 0
 
 -- the rings of a fan, one a stream
 abbrev pub fan_rings : Fan → List RingId
-fan_rings fan = map lane_ring fan.lanes.items
+fan_rings fan = map feed_ring fan.feeds.items
 
 -- how many channels a funnel has
 abbrev pub channel_count : Funnel → ℕ

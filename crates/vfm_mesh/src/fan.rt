@@ -1,6 +1,6 @@
-//! The reader's end of a mesh: a lane for each stream.
+//! The reader's end of a mesh: a feed for each stream.
 
-use crate::lane::{Lane, see_all};
+use crate::feed::{Feed, see_all};
 use crate::{Funnel, Parcel};
 use std::alloc::Global;
 use vfm_types::NoMemory;
@@ -8,13 +8,13 @@ use vfm_types::NoMemory;
 /// What the reader of one channel gives its parcels to, stream by stream. It may move to another thread.
 #[derive(Drop)]
 pub struct Fan {
-    pub(crate) lanes: Vec<Lane>,
+    pub(crate) feeds: Vec<Feed>,
 }
 
 impl Fan {
     ghost use Rattle.std.specs.Prelude.{◌≡◌, ◌+◌, ◌<◌, ◌≤◌, ℕ, ◌∷◌, [], ◌++◌, length, map, slice_set, slice_index_or, ◌==◌, if◌then◌else◌, IsOk, IsErr, IfOk, IfErr, IfSome, IfNone, OnOk, OnErr};
-    ghost use Rattle.vfm_mesh.specs.declared.lane.Lane.{Lane};
-    ghost use Rattle.vfm_mesh.specs.Lanes.{lane_given, lane_kept, lane_free, lane_ring, RingId};
+    ghost use Rattle.vfm_mesh.specs.declared.feed.Feed.{Feed};
+    ghost use Rattle.vfm_mesh.specs.Feeds.{feed_given, feed_kept, feed_free, feed_ring, RingId};
     ghost use Rattle.vfm_mesh.specs.Rows.{stream_count, all_given, given, all_kept, kept, all_free, free_slots, fan_rings, closed, ClosedInPart, channel_count, all_taken, taken, all_known, known, funnel_rings};
 
     /// Gives a parcel of a stream. It goes into the ring of the stream, or to the end of what the fan keeps, so that the
@@ -31,7 +31,7 @@ impl Fan {
         ensures kept { 0 < length (kept self.new stream) → free_slots self.new stream ≡ 0 }
         ensures memory { IsErr result → free_slots self.new stream ≡ 0 }
         // no other stream is touched
-        ensures others { (d : Lane) → self.new.lanes.items ≡ slice_set self.old.lanes.items stream (slice_index_or self.new.lanes.items stream d) }
+        ensures others { (d : Feed) → self.new.feeds.items ≡ slice_set self.old.feeds.items stream (slice_index_or self.new.feeds.items stream d) }
         ensures rings { fan_rings self.new ≡ fan_rings self.old }
         ensures streams { stream_count self.new ≡ stream_count self.old }
     {
@@ -49,11 +49,11 @@ impl Fan {
         ensures kept { 0 < length (kept self.new stream) → free_slots self.new stream ≡ 0 }
         ensures memory { IsErr result → free_slots self.new stream ≡ 0 }
         // no other stream is touched
-        ensures others { (d : Lane) → self.new.lanes.items ≡ slice_set self.old.lanes.items stream (slice_index_or self.new.lanes.items stream d) }
+        ensures others { (d : Feed) → self.new.feeds.items ≡ slice_set self.old.feeds.items stream (slice_index_or self.new.feeds.items stream d) }
         ensures rings { fan_rings self.new ≡ fan_rings self.old }
         ensures streams { stream_count self.new ≡ stream_count self.old }
     {
-        self.lanes[stream].offer(parcel)
+        self.feeds[stream].offer(parcel)
     }
 
     /// Gives the mark that nothing more comes to every stream, in rising order. When memory runs out, the first of them
@@ -64,7 +64,7 @@ impl Fan {
         ensures rings { fan_rings self.new ≡ fan_rings self.old }
         ensures streams { stream_count self.new ≡ stream_count self.old }
     {
-        for stream in 0..self.lanes.len() {
+        for stream in 0..self.feeds.len() {
             match self.offer_at(stream, Parcel::Close) {
                 Ok(()) => {}
                 Err((_, fault)) => return Err(fault),
@@ -75,22 +75,22 @@ impl Fan {
 
     // A fan with no stream yet, and room for so many.
     pub(crate) fn of(alloc: Global, streams: u32) -> Result<Fan, NoMemory>
-        ensures { IfOk result (λ fan. fan.lanes.items ≡ []) }
+        ensures { IfOk result (λ fan. fan.feeds.items ≡ []) }
     {
         Ok(Fan {
-            lanes: Vec::with_capacity(alloc, streams as usize)?,
+            feeds: Vec::with_capacity(alloc, streams as usize)?,
         })
     }
 
-    // One stream more, over this lane.
-    pub(crate) fn add(&mut self, lane: Lane) -> Result<(), NoMemory>
-        ensures given { OnOk result (all_given self.new ≡ all_given self.old ++ lane_given lane ∷ []) }
-        ensures kept { OnOk result (all_kept self.new ≡ all_kept self.old ++ lane_kept lane ∷ []) }
-        ensures free { OnOk result (all_free self.new ≡ all_free self.old ++ lane_free lane ∷ []) }
-        ensures rings { OnOk result (fan_rings self.new ≡ fan_rings self.old ++ lane_ring lane ∷ []) }
+    // One stream more, over this feed.
+    pub(crate) fn add(&mut self, feed: Feed) -> Result<(), NoMemory>
+        ensures given { OnOk result (all_given self.new ≡ all_given self.old ++ feed_given feed ∷ []) }
+        ensures kept { OnOk result (all_kept self.new ≡ all_kept self.old ++ feed_kept feed ∷ []) }
+        ensures free { OnOk result (all_free self.new ≡ all_free self.old ++ feed_free feed ∷ []) }
+        ensures rings { OnOk result (fan_rings self.new ≡ fan_rings self.old ++ feed_ring feed ∷ []) }
         ensures streams { OnOk result (stream_count self.new ≡ stream_count self.old + 1) }
     {
-        Ok(self.lanes.push(lane)?)
+        Ok(self.feeds.push(feed)?)
     }
 
     // Takes the oldest parcel of a stream that is kept.
@@ -102,7 +102,7 @@ impl Fan {
         ensures rings { fan_rings self.new ≡ fan_rings self.old }
         ensures streams { stream_count self.new ≡ stream_count self.old }
     {
-        self.lanes[stream].pop_kept()
+        self.feeds[stream].pop_kept()
     }
 
     // Lets a funnel see all that is in the ring of a stream and of this fan's channel.
@@ -118,6 +118,6 @@ impl Fan {
         ensures known { all_known funnel.new ≡ slice_set (all_known funnel.old) channel (known funnel.new channel) }
         ensures left { taken funnel.new channel ++ (known funnel.new channel ++ kept self.new stream) ≡ given self.new stream }
     {
-        see_all(&mut self.lanes[stream], &mut funnel.rings[channel]);
+        see_all(&mut self.feeds[stream], &mut funnel.rings[channel]);
     }
 }

@@ -14,7 +14,7 @@ pub struct Funnel {
 
 impl Funnel {
     ghost use Rattle.std.specs.Prelude.{◌≡◌, ◌+◌, ◌<◌, ◌≤◌, ℕ, ◌∷◌, [], ◌++◌, length, map, slice_set, slice_index_or, vec_len, IfSome, IfNone};
-    ghost use Rattle.vfm_mesh.specs.Lanes.{consumer_ring};
+    ghost use Rattle.vfm_mesh.specs.Feeds.{consumer_ring};
     ghost use Rattle.vfm_mesh.specs.Rows.{channel_count, all_taken, taken, all_known, known, funnel_rings};
 
     /// A funnel over these rings, one a channel.

@@ -5,20 +5,20 @@
 //! to the other and is never copied. Once both are done, `settle` takes all fans and all funnels back and gives what is left.
 #![tactic(auto)]
 
-mod bytes;
 mod fan;
+mod feed;
 mod funnel;
-mod lane;
 mod mesh;
 mod parcel;
+mod payload;
 mod rest;
 mod settling;
 
-pub use bytes::Bytes;
 pub use fan::Fan;
 pub use funnel::Funnel;
 pub use mesh::Mesh;
 pub use parcel::Parcel;
+pub use payload::Payload;
 pub use rest::Rest;
 pub use settling::settle;
 

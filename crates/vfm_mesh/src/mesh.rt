@@ -4,7 +4,7 @@ ghost use Rattle.std.specs.Prelude.{◌≡◌, ◌<◌, ◌≤◌, ℕ, [], leng
 ghost use Rattle.vfm_mesh.specs.Rows.{fan_rings, stream_count, channel_count, taken, funnel_rings};
 ghost use Rattle.vfm_mesh.specs.Meshes.{given_at, kept_at, free_at, taken_at, AreMesh, appended};
 
-use crate::lane::Lane;
+use crate::feed::Feed;
 use crate::{Fan, Funnel};
 use rtrb::RingBuffer;
 use std::alloc::Global;
@@ -25,7 +25,7 @@ impl Mesh {
         requires { 0 < slots }
         ensures channels { IfOk result (λ mesh. length mesh.0.items ≡ channels) }
         ensures streams { IfOk result (λ mesh. length mesh.1.items ≡ streams) }
-        ensures lanes { IfOk result (λ mesh. All (λ fan. stream_count fan ≡ streams) mesh.0.items) }
+        ensures feeds { IfOk result (λ mesh. All (λ fan. stream_count fan ≡ streams) mesh.0.items) }
         ensures rings { IfOk result (λ mesh. All (λ funnel. channel_count funnel ≡ channels) mesh.1.items) }
         ensures mesh { IfOk result (λ mesh. AreMesh mesh.0.items mesh.1.items) }
         ensures given { IfOk result (λ mesh. (k s : ℕ) → given_at mesh.0.items k s ≡ []) }
@@ -60,7 +60,7 @@ fn add_stream(alloc: Global, fans: &mut Vec<Fan>, slots: usize) -> Result<Funnel
     let mut rings = Vec::with_capacity(alloc, fans.len())?;
     for k in 0..fans.len() {
         let (producer, consumer) = RingBuffer::new(alloc, slots)?;
-        fans[k].add(Lane::of(alloc, producer))?;
+        fans[k].add(Feed::of(alloc, producer))?;
         rings.push(consumer)?;
     }
     Ok(Funnel::of(rings))

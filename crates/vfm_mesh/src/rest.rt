@@ -11,7 +11,7 @@ pub struct Rest {
     pub(crate) fans: Vec<Fan>,
     pub(crate) funnels: Vec<Funnel>,
     ghost numbered: { length fans.items ≤ 4294967295 },
-    ghost lanes: { map stream_count fans.items ≡ replicate (length fans.items) (length funnels.items) },
+    ghost feeds: { map stream_count fans.items ≡ replicate (length fans.items) (length funnels.items) },
     ghost rings: { map channel_count funnels.items ≡ replicate (length funnels.items) (length fans.items) },
 }
 

@@ -30,7 +30,7 @@ fn parcel_of(alloc: Global, index: u32) -> Result<Parcel, Fail> {
     let list = vec![in alloc; 9, (index % 256) as u8, 5]?;
     Ok(Parcel::Packet {
         head,
-        payload: Bytes::of(list, 1),
+        payload: Payload::of(list, 1),
     })
 }
 

@@ -7,7 +7,7 @@ use Rattle.vfm_packet.specs.Packet.{Packet}
 use Rattle.vfm_packet.specs.ChannelRefusal.{ChannelRefusal}
 use Rattle.vfm_mesh.specs.declared.parcel.Parcel.{Parcel}
 use Rattle.vfm_mesh.specs.declared.fan.Fan.{Fan}
-use Rattle.vfm_mesh.specs.Lanes.{lane_given}
+use Rattle.vfm_mesh.specs.Feeds.{feed_given}
 use Rattle.vfm_mesh.specs.Rows.{stream_count, all_given, given, closed, ClosedInPart}
 use Rattle.vfm_recv.specs.declared.channel_end.ChannelEnd.{ChannelEnd}
 use Rattle.vfm_recv.specs.declared.channel_end.ChannelEnd.TheVariants as channel_ends
@@ -87,7 +87,7 @@ module _ (before mid now : Fan) (packets : List Packet) (count : stream_count no
   part-at (row ∷ rows) (suc k) (suc s) inside = part-at rows k s (omega (arith, inside))
 
   inside : (s : ℕ) → s < stream_count mid → s < length (all_given mid)
-  inside s low = subst (λ (n : ℕ). s < n) (sym (length-map mid.lanes.items lane_given)) low
+  inside s low = subst (λ (n : ℕ). s < n) (sym (length-map mid.feeds.items feed_given)) low
 
   -- the mark was given in part
   pub late : (answer : ChannelEnd) (refusal : Option ChannelRefusal) → Says answer refusal (HandsOn before mid packets) (HandsOnFirst before mid packets)

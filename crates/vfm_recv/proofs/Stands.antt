@@ -17,7 +17,7 @@ use Rattle.vfm_packet.specs.Channel.{IsCarried, all_bytes}
 use Rattle.vfm_packet.proofs.Packets.{answer_stays, packet_was}
 use Rattle.vfm_mesh.specs.declared.parcel.Parcel.{Parcel}
 use Rattle.vfm_mesh.specs.declared.fan.Fan.{Fan}
-use Rattle.vfm_mesh.specs.Lanes.{lane_given}
+use Rattle.vfm_mesh.specs.Feeds.{feed_given}
 use Rattle.vfm_mesh.specs.Rows.{stream_count, all_given, given}
 use Rattle.vfm_streams.specs.Whole.{stream_packets}
 use Rattle.vfm_recv.specs.declared.intake.Intake.{Intake}
@@ -109,7 +109,7 @@ pub handed-more : (before fan next : Fan) (packets : List Packet) (p : Packet) �
 handed-more before fan next packets p handed inside count set_ = record {
   streams = count ∙ handed.streams;
   given = λ s below.
-      let here : p.head.stream < length (all_given fan) = subst (λ (n : ℕ). p.head.stream < n) (sym (length-map fan.lanes.items lane_given)) inside in
+      let here : p.head.stream < length (all_given fan) = subst (λ (n : ℕ). p.head.stream < n) (sym (length-map fan.feeds.items feed_given)) inside in
       ap (λ (l : List (List Parcel)). slice_index_or l s []) set_
       ∙ ⊎_elim
       (λ (same : s ≡ p.head.stream).

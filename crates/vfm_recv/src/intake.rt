@@ -8,7 +8,7 @@ use crate::ChannelEnd;
 use std::alloc::Global;
 use std::mem;
 use vfm_base::u32_at;
-use vfm_mesh::{Bytes, Fan, Parcel};
+use vfm_mesh::{Fan, Parcel, Payload};
 use vfm_packet::{CHANNEL_LIMIT, Cause, Decoded, Expect, HEAD_LEN, Header, Kind, decode, seal_len};
 use vfm_types::NoMemory;
 
@@ -144,7 +144,7 @@ impl Intake {
         list.truncate(HEAD_LEN + head.length as usize);
         let parcel = Parcel::Packet {
             head,
-            payload: Bytes::of(list, HEAD_LEN),
+            payload: Payload::of(list, HEAD_LEN),
         };
         match fan.offer(head.stream, parcel) {
             Ok(()) => {}

@@ -8,7 +8,7 @@ use crate::held::{Held, first_index, insert, remove, take_config};
 use crate::{Gap, PutFault};
 use std::alloc::Global;
 use std::collections::BTreeMap;
-use vfm_mesh::Bytes;
+use vfm_mesh::Payload;
 
 /// Takes the packets of one stream as they come, and gives them in the order of their indexes. A packet that waits costs
 /// a look-up in a tree of those that wait.
@@ -48,7 +48,7 @@ impl ReorderBuf {
 
     /// Puts a packet in: its index, whether it is a config packet, and its payload. `Doubled` comes exactly where a packet
     /// with that index was put before, whether it was given or not; the first one stays, and this one is dropped.
-    pub fn put(&mut self, index: u32, config: bool, payload: Bytes) -> Result<(), PutFault>
+    pub fn put(&mut self, index: u32, config: bool, payload: Payload) -> Result<(), PutFault>
         ensures put { OnOk result ((packets : List Packet) (p : Packet) → IsAfter self.old packets → IsPacket p index config payload
             → IsAfter self.new (packets ++ p ∷ [])) }
         ensures unchanged { OnErr result ((packets : List Packet) → IsAfter self.old packets → IsAfter self.new packets) }
@@ -67,7 +67,7 @@ impl ReorderBuf {
 
     /// Takes the next packet out: its index, whether it is a config packet, and its payload. The indexes are 0, 1, 2 and so
     /// on. `None` comes exactly where the next one hasn't been put, or a config packet was given. Takes no memory.
-    pub fn pop_ready(&mut self) -> Option<(u32, bool, Bytes)>
+    pub fn pop_ready(&mut self) -> Option<(u32, bool, Payload)>
         ensures exact { is_some result ≡ is_ready self.old }
         ensures some { IfSome result (λ r. (r.0 ≡ given self.old) × (given self.new ≡ given self.old + 1)) }
         ensures packet { IfSome result (λ r. (packets : List Packet) → IsAfter self.old packets

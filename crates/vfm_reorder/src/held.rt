@@ -6,7 +6,7 @@ ghost use Rattle.std.specs.BTreeMap.{get, btree_map_len};
 ghost use Rattle.vfm_reorder.specs.Waiting.{is_config_held};
 
 use std::collections::BTreeMap;
-use vfm_mesh::Bytes;
+use vfm_mesh::Payload;
 use vfm_types::NoMemory;
 
 /// What is kept of a packet beside its index.
@@ -14,7 +14,7 @@ use vfm_types::NoMemory;
 pub struct Held {
     /// Whether it is a config packet.
     pub config: bool,
-    pub payload: Bytes,
+    pub payload: Payload,
 }
 
 /// The least index of these packets, if there are any.

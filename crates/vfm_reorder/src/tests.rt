@@ -3,7 +3,7 @@
 use super::*;
 use std::alloc::Global;
 use std::test::Fail;
-use vfm_mesh::Bytes;
+use vfm_mesh::Payload;
 
 // A buffer into which packets with these indexes were put, config packets where it says so, each with its index as its one
 // byte of payload.
@@ -16,8 +16,8 @@ fn buffer_of(alloc: Global, packets: &[(u32, bool)]) -> Result<ReorderBuf, Fail>
     Ok(buffer)
 }
 
-fn payload_of(alloc: Global, index: u32) -> Result<Bytes, Fail> {
-    Ok(Bytes::of(vec![in alloc; (index % 256) as u8]?, 0))
+fn payload_of(alloc: Global, index: u32) -> Result<Payload, Fail> {
+    Ok(Payload::of(vec![in alloc; (index % 256) as u8]?, 0))
 }
 
 // The next packet, without its payload, which has to be its own.
@@ -85,13 +85,33 @@ fn answers_at_the_end(rt: HostRuntime) -> Result<(), Fail> {
         (&[(1, false), (0, false)], 2, Err(Gap::NoConfig)),
         (&[(max, false)], 0, Err(Gap::NoConfig)),
         (&[(0, false), (3, true)], 1, Err(Gap::Missing { index: 1 })),
-        (&[(3, true), (0, false), (2, false)], 1, Err(Gap::Missing { index: 1 })),
+        (
+            &[(3, true), (0, false), (2, false)],
+            1,
+            Err(Gap::Missing { index: 1 }),
+        ),
         (&[(max, true)], 0, Err(Gap::Missing { index: 0 })),
-        (&[(0, false), (1, true), (7, false), (5, false)], 2, Err(Gap::Past { index: 5 })),
-        (&[(0, false), (1, true), (7, true), (9, false)], 2, Err(Gap::Past { index: 7 })),
+        (
+            &[(0, false), (1, true), (7, false), (5, false)],
+            2,
+            Err(Gap::Past { index: 5 }),
+        ),
+        (
+            &[(0, false), (1, true), (7, true), (9, false)],
+            2,
+            Err(Gap::Past { index: 7 }),
+        ),
         // a packet above the config packet is answered before one that is lacking below it
-        (&[(0, false), (3, true), (4, false)], 1, Err(Gap::Past { index: 4 })),
-        (&[(5, true), (8, true), (2, false)], 0, Err(Gap::Past { index: 8 })),
+        (
+            &[(0, false), (3, true), (4, false)],
+            1,
+            Err(Gap::Past { index: 4 }),
+        ),
+        (
+            &[(5, true), (8, true), (2, false)],
+            0,
+            Err(Gap::Past { index: 8 }),
+        ),
     ];
     for (packets, given, answer) in cases {
         assert_eq!(rt; end_of(buffer_of(alloc, packets)?), Some((given, answer)));

@@ -2,7 +2,7 @@ use Rattle.std.proofs.Common.{◌≡◌, ◌∙◌, sym, ap, ap₂, ℕ, suc, �
 use Rattle.std.proofs.lemmas.List.{length-map, length-set, length-append, map-append}
 use Rattle.rtrb.specs.Ring.{received}
 use Rattle.vfm_mesh.specs.declared.parcel.Parcel.{Parcel}
-use Rattle.vfm_mesh.specs.Lanes.{RingId, consumer_ring}
+use Rattle.vfm_mesh.specs.Feeds.{RingId, consumer_ring}
 use Rattle.vfm_mesh.specs.Rows.{fan_rings, all_given, all_kept, all_free}
 use Rattle.vfm_mesh.specs.Meshes.{appended}
 use Rattle.vfm_mesh.proofs.RowLemmas.{read-at, all-set, one-pair}
@@ -27,15 +27,15 @@ loop-k-preserved c =
     let made : fan_rings y ≡ slice_index_or list i [] ++ id ∷ [] =
     c.in_ok-add.ensures.rings
     ∙ ap₂ (λ (row : List RingId) (r : RingId). row ++ r ∷ [])
-    (sym (read-at fan_rings fans i x [] below was) ∙ ap (λ (rows : List (List RingId)). slice_index_or rows i []) inv.lanes)
+    (sym (read-at fan_rings fans i x [] below was) ∙ ap (λ (rows : List (List RingId)). slice_index_or rows i []) inv.feeds)
     (c.of.ensures.ring ∙ one-pair c.in_ok-producer.producer c.in_ok-producer.consumer c.in_ok-producer.ensures.pair) in
     let pushed : map consumer_ring c.push.new.self.items ≡ ids ++ id ∷ [] =
     ap (map consumer_ring) c.in_ok-push.ensures.items ∙ map-append consumer_ring c.loop-k.rings.items (c.in_ok-producer.consumer ∷ []) in
     let next : suc i ≡ i + 1 = omega arith in
     record {
-      lanes =
+      feeds =
           all-set fan_rings fans i y (slice_index_or list i [] ++ id ∷ []) made
-          ∙ ap (λ (rows : List (List RingId)). slice_set rows i (slice_index_or list i [] ++ id ∷ [])) inv.lanes
+          ∙ ap (λ (rows : List (List RingId)). slice_set rows i (slice_index_or list i [] ++ id ∷ [])) inv.feeds
           ∙ appended-more first ids i id (length-map c.loop-k.rings.items consumer_ring ∙ inv.count) inside
           ∙ ap₂ (λ (n : ℕ) (l : List RingId). appended (take n first) l ++ drop n first) next (sym pushed);
       count = ap (λ (l : List _). length l) c.in_ok-push.ensures.items ∙ length-append c.loop-k.rings.items (c.in_ok-producer.consumer ∷ []) ∙ ap (λ (n : ℕ). n + 1) inv.count;

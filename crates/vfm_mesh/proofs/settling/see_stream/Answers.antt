@@ -2,7 +2,7 @@ use Rattle.std.proofs.Common.{◌≡◌, ◌∙◌, sym, ap, ap₂, subst, ℕ, 
 use Rattle.std.proofs.lemmas.Bool.{cases_eq}
 use Rattle.std.proofs.lemmas.List.{length-map, length-set, get_or-set_other}
 use Rattle.vfm_mesh.specs.declared.parcel.Parcel.{Parcel}
-use Rattle.vfm_mesh.specs.Lanes.{RingId, lane_ring}
+use Rattle.vfm_mesh.specs.Feeds.{RingId, feed_ring}
 use Rattle.vfm_mesh.specs.Rows.{all_given, all_kept, fan_rings, all_known, taken, known}
 use Rattle.vfm_mesh.specs.Meshes.{cell}
 use Rattle.vfm_mesh.proofs.RowLemmas.{read-at, none-set}
@@ -18,7 +18,7 @@ see_all-requires-clause-stream c =
     (ap (λ (l : List RingId). length l)
     (ap (λ (rows : List (List RingId)). slice_index_or rows k []) (sym c.loop-channel.invariant.rings)
     ∙ read-at fan_rings c.loop-channel.fans.items k c.index_mut.result.now [] below c.index_mut.ensures.value)
-    ∙ length-map c.index_mut.result.now.lanes.items lane_ring)
+    ∙ length-map c.index_mut.result.now.feeds.items feed_ring)
     (c.requires.inside k first)
 
 pub loop-channel-preserved : goal.loop-channel-preserved

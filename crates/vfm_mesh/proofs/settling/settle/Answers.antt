@@ -2,7 +2,7 @@ use Rattle.std.proofs.Common.{◌≡◌, ◌∙◌, sym, ap, ap₂, subst, ℕ, 
 use Rattle.std.proofs.lemmas.Bool.{cases_eq}
 use Rattle.std.proofs.lemmas.List.{length-map, length-set, map-set, get_or-set_other}
 use Rattle.vfm_mesh.specs.declared.parcel.Parcel.{Parcel}
-use Rattle.vfm_mesh.specs.Lanes.{RingId, lane_ring, consumer_ring}
+use Rattle.vfm_mesh.specs.Feeds.{RingId, feed_ring, consumer_ring}
 use Rattle.vfm_mesh.specs.Rows.{all_given, all_kept, fan_rings, all_known, all_taken, stream_count, channel_count, funnel_rings}
 use Rattle.vfm_mesh.specs.Meshes.{cell, IsStream}
 use Rattle.vfm_mesh.proofs.RowLemmas.{read-at, none-set, all-same}
@@ -19,7 +19,7 @@ see_stream-requires c =
     ap (λ (rows : List (List RingId)). slice_index_or rows s []) (sym c.loop-stream.invariant.rings)
     ∙ read-at funnel_rings funnels s c.index_mut.result.now [] below c.index_mut.ensures.value in
     subst (λ (l : List RingId). IsStream (map fan_rings c.loop-stream.fans.items) l s) rings
-    (subst (λ (rows : List (List RingId)). IsStream rows (slice_index_or (map funnel_rings c.args.funnels.items) s []) s) (sym c.loop-stream.invariant.lanes) (c.requires.mesh.each s first))
+    (subst (λ (rows : List (List RingId)). IsStream rows (slice_index_or (map funnel_rings c.args.funnels.items) s []) s) (sym c.loop-stream.invariant.feeds) (c.requires.mesh.each s first))
 
 pub loop-stream-preserved : goal.loop-stream-preserved
 loop-stream-preserved c =
@@ -33,7 +33,7 @@ loop-stream-preserved c =
     record {
       given = c.see_stream.ensures.given ∙ inv.given;
       kept = c.see_stream.ensures.kept ∙ inv.kept;
-      lanes = c.see_stream.ensures.rings ∙ inv.lanes;
+      feeds = c.see_stream.ensures.rings ∙ inv.feeds;
       took = none-set all_taken funnels i x y was c.see_stream.ensures.taken ∙ inv.took;
       rings = none-set funnel_rings funnels i x y was c.see_stream.ensures.funnel ∙ inv.rings;
       fan_count =
@@ -63,11 +63,11 @@ loop-stream-preserved c =
           ∙ inv.sees k s inside (grind (arith, away, more))) (cases_eq s i);
     }
 
-pub invariant_of-result-clause-lanes : goal.invariant_of-result-clause-lanes
-invariant_of-result-clause-lanes c =
-    all-same stream_count fan_rings (λ fan. length-map fan.lanes.items lane_ring) c.loop-stream.fans.items (length c.loop-stream.funnels.items)
+pub invariant_of-result-clause-feeds : goal.invariant_of-result-clause-feeds
+invariant_of-result-clause-feeds c =
+    all-same stream_count fan_rings (λ fan. length-map fan.feeds.items feed_ring) c.loop-stream.fans.items (length c.loop-stream.funnels.items)
     (subst (λ (rows : List (List RingId)). (k : ℕ) → k < length rows → length (slice_index_or rows k []) ≡ length c.loop-stream.funnels.items)
-    (sym c.loop-stream.invariant.lanes)
+    (sym c.loop-stream.invariant.feeds)
     (λ k below. c.requires.mesh.streams k below ∙ length-map c.args.funnels.items funnel_rings ∙ sym c.loop-stream.invariant.funnel_count))
 
 pub invariant_of-result-clause-rings : goal.invariant_of-result-clause-rings

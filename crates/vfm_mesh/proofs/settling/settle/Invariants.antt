@@ -8,7 +8,7 @@ abbrev pub invariant-loop-stream : goal.invariant-loop-stream
 invariant-loop-stream l = record {
   given : map all_given l.fans.items ≡ map all_given l.initial.fans.items;
   kept : map all_kept l.fans.items ≡ map all_kept l.initial.fans.items;
-  lanes : map fan_rings l.fans.items ≡ map fan_rings l.initial.fans.items;
+  feeds : map fan_rings l.fans.items ≡ map fan_rings l.initial.fans.items;
   took : map all_taken l.funnels.items ≡ map all_taken l.initial.funnels.items;
   rings : map funnel_rings l.funnels.items ≡ map funnel_rings l.initial.funnels.items;
   fan_count : length l.fans.items ≡ length l.initial.fans.items;

@@ -1,6 +1,6 @@
 use Rattle.std.proofs.Common.{◌≡◌, ◌∙◌, sym, ap, subst, ℕ, ◌<◌, List, [], length, map, slice_index_or, arith}
 use Rattle.std.proofs.lemmas.List.{length-map}
-use Rattle.vfm_mesh.specs.Lanes.{RingId, lane_ring}
+use Rattle.vfm_mesh.specs.Feeds.{RingId, feed_ring}
 use Rattle.vfm_mesh.specs.Rows.{fan_rings, funnel_rings, stream_count}
 use Rattle.vfm_mesh.specs.Meshes.{AreJoined}
 use Rattle.vfm_mesh.proofs.RowLemmas.{read-at, none-set}
@@ -11,7 +11,7 @@ offer-requires c =
     let fans = c.args.fans.now.items in
     let k = c.args.channel in
     let count : stream_count c.index_mut.result.now ≡ length c.args.funnels.now.items =
-    sym (length-map c.index_mut.result.now.lanes.items lane_ring)
+    sym (length-map c.index_mut.result.now.feeds.items feed_ring)
     ∙ ap (λ (l : List RingId). length l) (sym (read-at fan_rings fans k c.index_mut.result.now [] c.requires.channel c.index_mut.ensures.value))
     ∙ c.requires.mesh.streams k (subst (λ (n : ℕ). k < n) (sym (length-map fans fan_rings)) c.requires.channel)
     ∙ length-map c.args.funnels.now.items funnel_rings in

@@ -1,7 +1,7 @@
 use Rattle.std.proofs.Common.{◌∙◌, sym, ap, List, [], ◌∷◌}
 use Rattle.rtrb.specs.Ring.{known_items}
 use Rattle.vfm_mesh.specs.declared.parcel.Parcel.{Parcel}
-use Rattle.vfm_mesh.specs.Lanes.{consumer_ring}
+use Rattle.vfm_mesh.specs.Feeds.{consumer_ring}
 use Rattle.vfm_mesh.proofs.RowLemmas.{read-at, read-set, all-set, none-set, one-end}
 use Rattle.vfm_mesh.proofs.funnel.Funnel.pop_known.Goals as goal
 

@@ -4,7 +4,7 @@ use Rattle.std.proofs.lemmas.List.Elements.{recursion_from_All, All-from_recursi
 use Rattle.vfm_mesh.specs.declared.parcel.Parcel.{Parcel}
 use Rattle.vfm_mesh.specs.declared.fan.Fan.{Fan}
 use Rattle.vfm_mesh.specs.declared.funnel.Funnel.{Funnel}
-use Rattle.vfm_mesh.specs.Lanes.{RingId, lane_ring, lane_given, lane_kept, lane_free, consumer_ring}
+use Rattle.vfm_mesh.specs.Feeds.{RingId, feed_ring, feed_given, feed_kept, feed_free, consumer_ring}
 use Rattle.vfm_mesh.specs.Rows.{fan_rings, funnel_rings, all_taken, stream_count, channel_count}
 use Rattle.vfm_mesh.specs.Meshes.{AreJoined, cell}
 use Rattle.vfm_mesh.proofs.Cells.{none-at, rows-none}
@@ -15,19 +15,19 @@ use Rattle.vfm_mesh.proofs.mesh.Mesh.of.Goals as goal
 pub loop-2-init : goal.loop-2-init
 loop-2-init c =
     let fans = c.loop.fans.items in
-    let empty = recursion_from_All (λ (fan : Fan). fan.lanes.items ≡ []) fans c.loop.invariant.empty in
+    let empty = recursion_from_All (λ (fan : Fan). fan.feeds.items ≡ []) fans c.loop.invariant.empty in
     record {
       fan_count = search (rules, arith);
       funnel_count = ap (λ (l : List Funnel). length l) c.in_ok-funnels.ensures.items;
       mesh =
           subst (λ (l : List Funnel). AreJoined (map fan_rings fans) (map funnel_rings l)) (sym c.in_ok-funnels.ensures.items)
           (record {
-            streams = λ k inside. ap (λ (l : List RingId). length l) (none-at lane_ring fans empty k);
+            streams = λ k inside. ap (λ (l : List RingId). length l) (none-at feed_ring fans empty k);
             each = λ s inside. absurd (omega (arith, inside));
           });
-      given = λ k s. ap (λ (l : List (List Parcel)). slice_index_or l s []) (none-at lane_given fans empty k);
-      kept = λ k s. ap (λ (l : List (List Parcel)). slice_index_or l s []) (none-at lane_kept fans empty k);
-      free = λ k s. ap (λ (l : List ℕ). slice_index_or l s c.args.slots) (none-at lane_free fans empty k);
+      given = λ k s. ap (λ (l : List (List Parcel)). slice_index_or l s []) (none-at feed_given fans empty k);
+      kept = λ k s. ap (λ (l : List (List Parcel)). slice_index_or l s []) (none-at feed_kept fans empty k);
+      free = λ k s. ap (λ (l : List ℕ). slice_index_or l s c.args.slots) (none-at feed_free fans empty k);
       taken = λ k s. ap (λ (l : List Funnel). cell (map all_taken l) s k) c.in_ok-funnels.ensures.items;
     }
 
@@ -55,10 +55,10 @@ loop-2-preserved c =
           ∙ rows-none (map all_taken c.loop-2.funnels.items) (all_taken funnel) (λ t j. inv.taken j t) made.taken s k;
     }
 
-pub returns-clause-lanes : goal.returns-clause-lanes
-returns-clause-lanes c =
+pub returns-clause-feeds : goal.returns-clause-feeds
+returns-clause-feeds c =
     All-from_recursion (λ (fan : Fan). stream_count fan ≡ c.args.streams) c.loop-2.fans.items
-    (all-counted stream_count fan_rings (λ fan. length-map fan.lanes.items lane_ring) c.loop-2.fans.items c.args.streams
+    (all-counted stream_count fan_rings (λ fan. length-map fan.feeds.items feed_ring) c.loop-2.fans.items c.args.streams
     (λ k below. c.loop-2.invariant.mesh.streams k below ∙ length-map c.loop-2.funnels.items funnel_rings ∙ search (rules, arith)))
 
 pub returns-clause-rings : goal.returns-clause-rings

@@ -7,7 +7,7 @@ use Rattle.vfm_mesh.proofs.mesh.Mesh.of.Given as goal
 abbrev pub invariant-loop : goal.invariant-loop
 invariant-loop l = record {
   count : length l.fans.items ≡ l.counter;
-  empty : All (λ fan. fan.lanes.items ≡ []) l.fans.items;
+  empty : All (λ fan. fan.feeds.items ≡ []) l.fans.items;
 }
 
 -- a mesh of all channels and of the streams so far

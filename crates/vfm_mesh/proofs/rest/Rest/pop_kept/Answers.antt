@@ -9,7 +9,7 @@ pub pop_kept-requires : goal.pop_kept-requires
 pop_kept-requires c =
     let count : stream_count c.index_mut.result.now ≡ (length c.args.self.now.funnels.items) =
     sym (read-at stream_count c.args.self.now.fans.items c.args.channel c.index_mut.result.now 0 c.requires.channel c.index_mut.ensures.value)
-    ∙ ap (λ (l : List ℕ). slice_index_or l c.args.channel 0) c.args.self.now.lanes
+    ∙ ap (λ (l : List ℕ). slice_index_or l c.args.channel 0) c.args.self.now.feeds
     ∙ get_or-replicate (length c.args.self.now.fans.items) c.args.channel (length c.args.self.now.funnels.items) 0 c.requires.channel in
     subst (λ (n : ℕ). c.args.stream < n) (sym count) c.requires.stream
 
@@ -38,8 +38,8 @@ pub invariant_of-self-clause-rings : goal.invariant_of-self-clause-rings
 invariant_of-self-clause-rings c =
     c.args.self.now.rings ∙ ap (λ (n : ℕ). replicate (length c.args.self.now.funnels.items) n) (sym (length-set c.args.self.now.fans.items c.args.channel c.pop_kept.new.self))
 
-pub invariant_of-self-clause-lanes : goal.invariant_of-self-clause-lanes
-invariant_of-self-clause-lanes c =
+pub invariant_of-self-clause-feeds : goal.invariant_of-self-clause-feeds
+invariant_of-self-clause-feeds c =
     none-set stream_count c.args.self.now.fans.items c.args.channel c.index_mut.result.now c.pop_kept.new.self c.index_mut.ensures.value c.pop_kept.ensures.streams
-    ∙ c.args.self.now.lanes
+    ∙ c.args.self.now.feeds
     ∙ ap (λ (n : ℕ). replicate n (length c.args.self.now.funnels.items)) (sym (length-set c.args.self.now.fans.items c.args.channel c.pop_kept.new.self))

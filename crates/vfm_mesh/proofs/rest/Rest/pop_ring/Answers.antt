@@ -34,9 +34,9 @@ returns-clause-others c k t other =
     cell-others all_known c.args.self.now.funnels.items c.args.stream c.index_mut.result.now c.pop_known.new.self c.requires.stream c.index_mut.ensures.value
     c.args.channel _ c.pop_known.ensures.others t k (λ s r. other r s)
 
-pub invariant_of-self-clause-lanes : goal.invariant_of-self-clause-lanes
-invariant_of-self-clause-lanes c =
-    c.args.self.now.lanes ∙ ap (λ (n : ℕ). replicate (length c.args.self.now.fans.items) n) (sym (length-set c.args.self.now.funnels.items c.args.stream c.pop_known.new.self))
+pub invariant_of-self-clause-feeds : goal.invariant_of-self-clause-feeds
+invariant_of-self-clause-feeds c =
+    c.args.self.now.feeds ∙ ap (λ (n : ℕ). replicate (length c.args.self.now.fans.items) n) (sym (length-set c.args.self.now.funnels.items c.args.stream c.pop_known.new.self))
 
 pub invariant_of-self-clause-rings : goal.invariant_of-self-clause-rings
 invariant_of-self-clause-rings c =

@@ -7,28 +7,28 @@ use std::marker::Model;
 /// Bytes that stand in a vector, of which the first may be left aside. So a packet's payload needs no copy of its own: it
 /// stays where the packet was read, after its header. Seen as the list of the bytes.
 #[derive(Debug, Drop)]
-pub struct Bytes {
+pub struct Payload {
     list: Vec<u8>,
     from: usize,
 }
 
-impl Model for Bytes {
+impl Model for Payload {
     ghost use Rattle.std.specs.Prelude.{ℕ, List, drop, vec_len, ◌≤◌};
 
     ghost Value = { List ℕ };
 
-    ghost view = { λ b. drop b.from b.list.items };
+    ghost view = { λ p. drop p.from p.list.items };
 
-    ghost invariant = { λ b. b.from ≤ vec_len b.list };
+    ghost invariant = { λ p. p.from ≤ vec_len p.list };
 }
 
-impl Bytes {
+impl Payload {
     /// The bytes of the list from a place on. Takes no memory.
-    pub fn of(list: Vec<u8>, from: usize) -> Bytes
+    pub fn of(list: Vec<u8>, from: usize) -> Payload
         requires { from ≤ vec_len list }
         ensures { result ≡ drop from list.items }
     {
-        Bytes { list, from }
+        Payload { list, from }
     }
 
     /// Lends the bytes.
