@@ -6,6 +6,7 @@ use Rattle.std.proofs.lemmas.Bool.{and_parts, and_from, true≢false, not-true}
 use Rattle.std.proofs.lemmas.List.{append_cancel_right, append_cancel_left}
 use Rattle.std.proofs.lemmas.Option.{same_Some, none-some}
 use Rattle.vfm_report.specs.Same.{same_text}
+use Rattle.vfm_report.specs.Printed.{Each, EachOf, IfThere}
 use Rattle.vfm_report.specs.Found.{Found, Read, Bad, Reader, ◌>>=◌, found_map, found_or, one_line, this_line, then_more, many_lines, in_turn, row, titled}
 use Rattle.vfm_report.proofs.Texts.{same_text-refl, same_text-eq}
 
@@ -63,7 +64,7 @@ pub record ExactLine {X : Type 0} (text : X → List ℕ) (ok : X → Type 0) (o
 abbrev pub any_line : List ℕ → Bool
 any_line l = true
 
-stands-any : (lines : Lines) → stands any_line lines ≡ true
+pub stands-any : (lines : Lines) → stands any_line lines ≡ true
 stands-any [] = refl
 stands-any (l ∷ lines) = refl
 
@@ -237,11 +238,6 @@ map-exact {A} {X} text₁ ok₁ text ok stop read f one to from = record { sound
 
 -- ---- many lines
 
--- each is
-abbrev pub Each : {X : Type 0} → (X → Type 0) → List X → Type 0
-Each ok [] = Unit {0}
-Each ok (x ∷ xs) = ok x × Each ok xs
-
 -- a line each
 abbrev pub lines_each : {X : Type 0} → (X → List ℕ) → List X → Lines
 lines_each text [] = []
@@ -306,13 +302,6 @@ abbrev pub row_text : {X : Type 0} → (ℕ → X → Lines) → ℕ → List X 
 row_text text k [] = []
 row_text text k (x ∷ xs) = text k x ++ row_text text (k + 1) xs
 
--- there are so many, and each is one, numbered from k on
-abbrev pub IsRow : {X : Type 0} → (ℕ → X → Type 0) → ℕ → ℕ → List X → Type 0
-IsRow ok zero k [] = Unit {0}
-IsRow ok zero k (x ∷ xs) = ⊥
-IsRow ok (suc n) k [] = ⊥
-IsRow ok (suc n) k (x ∷ xs) = ok k x × IsRow ok n (k + 1) xs
-
 -- what may stand after: what may stand after the last
 abbrev pub row_stop : (ℕ → List ℕ → Bool) → ℕ → ℕ → List ℕ → Bool
 row_stop stop zero k = any_line
@@ -324,25 +313,25 @@ default_row : {X : Type 0} (x₀ : ℕ → X) → ℕ → ℕ → List X
 default_row x₀ zero k = []
 default_row x₀ (suc n) k = x₀ k ∷ default_row x₀ n (k + 1)
 
-default_ok : {X : Type 0} (ok : ℕ → X → Type 0) (x₀ : ℕ → X) → ((k : ℕ) → ok k (x₀ k)) → (n k : ℕ) → IsRow ok n k (default_row x₀ n k)
+default_ok : {X : Type 0} (ok : ℕ → X → Type 0) (x₀ : ℕ → X) → ((k : ℕ) → ok k (x₀ k)) → (n k : ℕ) → EachOf ok n k (default_row x₀ n k)
 unfolding default_row
 default_ok ok x₀ h zero k = tt
 default_ok ok x₀ h (suc n) k = (h k, default_ok ok x₀ h n (k + 1))
 
-nothing-exact : {X : Type 0} (text : ℕ → X → Lines) (ok : ℕ → X → Type 0) (k : ℕ) → Exact (row_text text k) (IsRow ok zero k) any_line (λ lines. Read [] lines)
+nothing-exact : {X : Type 0} (text : ℕ → X → Lines) (ok : ℕ → X → Type 0) (k : ℕ) → Exact (row_text text k) (EachOf ok zero k) any_line (λ lines. Read [] lines)
 nothing-exact {X} text ok k = record { sound = sound; keeps = keeps; own = own; bad = bad }
   where
-    sound : (lines rest : Lines) (xs : List X) → Read [] lines ≡ Read xs rest → IsRow ok zero k xs × (lines ≡ row_text text k xs ++ rest)
+    sound : (lines rest : Lines) (xs : List X) → Read [] lines ≡ Read xs rest → EachOf ok zero k xs × (lines ≡ row_text text k xs ++ rest)
     sound lines rest [] h = (tt, same_rest {X = List X} [] [] lines rest h)
     sound lines rest (x ∷ xs) h = absurd (let e = same_value [] (x ∷ xs) lines rest h in cc e)
     keeps : (lines rest : Lines) (xs : List X) → Read [] lines ≡ Read xs rest → (good : Lines) (l : List ℕ) (after other : Lines) → rest ≡ good ++ l ∷ after
         → ◌≡◌ {A = Found (List X)} (Read [] (row_text text k xs ++ (good ++ l ∷ other))) (Read xs (good ++ l ∷ other))
     keeps lines rest [] h good l after other is = refl
     keeps lines rest (x ∷ xs) h good l after other is = absurd (let e = same_value [] (x ∷ xs) lines rest h in cc e)
-    own : (xs : List X) (rest : Lines) → IsRow ok zero k xs → stands any_line rest ≡ true → ◌≡◌ {A = Found (List X)} (Read [] (row_text text k xs ++ rest)) (Read xs rest)
+    own : (xs : List X) (rest : Lines) → EachOf ok zero k xs → stands any_line rest ≡ true → ◌≡◌ {A = Found (List X)} (Read [] (row_text text k xs ++ rest)) (Read xs rest)
     own [] rest h s = refl
     own (x ∷ xs) rest h s = absurd h
-    bad : (lines rest : Lines) → ◌≡◌ {A = Found (List X)} (Read [] lines) (Bad rest) → BadAt (row_text text k) (IsRow ok zero k) (λ lines. Read [] lines) lines rest
+    bad : (lines rest : Lines) → ◌≡◌ {A = Found (List X)} (Read [] lines) (Bad rest) → BadAt (row_text text k) (EachOf ok zero k) (λ lines. Read [] lines) lines rest
     bad lines rest h = absurd cc
 
 -- the found pair of the first and the others, as a list
@@ -367,42 +356,37 @@ same-exact text ok stop read other same one =
 -- so many texts, where each may stand after the one before
 pub row-exact : {X : Type 0} (text : ℕ → X → Lines) (ok : ℕ → X → Type 0) (stop : ℕ → List ℕ → Bool) (reader : ℕ → Reader X) (x₀ : ℕ → X) → ((k : ℕ) → ok k (x₀ k))
     → ((k : ℕ) → Exact (text k) (ok k) (stop k) (reader k)) → ((k : ℕ) (x : X) (rest : Lines) → ok (k + 1) x → stands (stop k) (text (k + 1) x ++ rest) ≡ true)
-    → (n k : ℕ) → Exact (row_text text k) (IsRow ok n k) (row_stop stop n k) (row reader n k)
+    → (n k : ℕ) → Exact (row_text text k) (EachOf ok n k) (row_stop stop n k) (row reader n k)
 row-exact text ok stop reader x₀ ok₀ each next zero k = nothing-exact text ok k
 row-exact {X} text ok stop reader x₀ ok₀ each next (suc n) k =
     let more = row-exact text ok stop reader x₀ ok₀ each next n (k + 1) in
-    let pair = turn-exact (text k) (ok k) (stop k) (reader k) (row_text text (k + 1)) (IsRow ok n (k + 1)) (row_stop stop n (k + 1)) (row reader n (k + 1)) (row_stop stop (suc n) k)
+    let pair = turn-exact (text k) (ok k) (stop k) (reader k) (row_text text (k + 1)) (EachOf ok n (k + 1)) (row_stop stop n (k + 1)) (row reader n (k + 1)) (row_stop stop (suc n) k)
         (default_row x₀ n (k + 1)) (default_ok ok x₀ ok₀ n (k + 1)) (each k) more (down n) in
-    let list = map-exact (λ (p : X × List X). text k p.0 ++ row_text text (k + 1) p.1) (λ (p : X × List X). ok k p.0 × IsRow ok n (k + 1) p.1) (row_text text k) (IsRow ok (suc n) k) (row_stop stop (suc n) k) (in_turn (reader k) (row reader n (k + 1)))
+    let list = map-exact (λ (p : X × List X). text k p.0 ++ row_text text (k + 1) p.1) (λ (p : X × List X). ok k p.0 × EachOf ok n (k + 1) p.1) (row_text text k) (EachOf ok (suc n) k) (row_stop stop (suc n) k) (in_turn (reader k) (row reader n (k + 1)))
         (λ (p : X × List X). p.0 ∷ p.1) pair (λ p h. (h, refl)) from in
-    same-exact (row_text text k) (IsRow ok (suc n) k) (row_stop stop (suc n) k) _ (row reader (suc n) k) (λ lines. turn-list (reader k lines) (row reader n (k + 1))) list
+    same-exact (row_text text k) (EachOf ok (suc n) k) (row_stop stop (suc n) k) _ (row reader (suc n) k) (λ lines. turn-list (reader k lines) (row reader n (k + 1))) list
   where
-    down : (n : ℕ) (xs : List X) (rest : Lines) → IsRow ok n (k + 1) xs → stands (row_stop stop (suc n) k) rest ≡ true → (stands (row_stop stop n (k + 1)) rest ≡ true) × (stands (stop k) (row_text text (k + 1) xs ++ rest) ≡ true)
+    down : (n : ℕ) (xs : List X) (rest : Lines) → EachOf ok n (k + 1) xs → stands (row_stop stop (suc n) k) rest ≡ true → (stands (row_stop stop n (k + 1)) rest ≡ true) × (stands (stop k) (row_text text (k + 1) xs ++ rest) ≡ true)
     down zero [] rest h s = (stands-any rest, s)
     down zero (x ∷ xs) rest h s = absurd h
     down (suc n) [] rest h s = absurd h
     down (suc n) (x ∷ xs) rest h s =
         (s, ap (stands (stop k)) (append_assoc (text (k + 1) x) (row_text text (k + 1 + 1) xs) rest) ∙ next k x (row_text text (k + 1 + 1) xs ++ rest) h.0)
-    from : (xs : List X) → IsRow ok (suc n) k xs → (p : X × List X) × (p.0 ∷ p.1 ≡ xs) × (ok k p.0 × IsRow ok n (k + 1) p.1)
+    from : (xs : List X) → EachOf ok (suc n) k xs → (p : X × List X) × (p.0 ∷ p.1 ≡ xs) × (ok k p.0 × EachOf ok n (k + 1) p.1)
     from [] h = absurd h
     from (x ∷ xs) h = ((x, xs), refl, h)
 
 -- ---- a part under its title
 
-pub titled_text : {X : Type 0} → List ℕ → (X → Lines) → Option X → Lines
+abbrev pub titled_text : {X : Type 0} → List ℕ → (X → Lines) → Option X → Lines
 titled_text title text None = []
 titled_text title text (Some x) = title ∷ text x
-
-pub IsTitled : {X : Type 0} → (X → Type 0) → Option X → Type 0
-IsTitled ok None = Unit {0}
-IsTitled ok (Some x) = ok x
 
 abbrev pub titled_stop : List ℕ → (List ℕ → Bool) → List ℕ → Bool
 titled_stop title stop l = not (same_text l title) && stop l
 
 pub titled-exact : {X : Type 0} (title : List ℕ) (text : X → Lines) (ok : X → Type 0) (stop : List ℕ → Bool) (reader : Reader X) → Exact text ok stop reader
-    → Exact (titled_text title text) (IsTitled ok) (titled_stop title stop) (titled title reader)
-unfolding titled_text IsTitled
+    → Exact (titled_text title text) (IfThere ok) (titled_stop title stop) (titled title reader)
 titled-exact {X} title text ok stop reader one = record { sound = sound; keeps = keeps; own = own; bad = bad }
   where
     some : (o : Found X) (x : Option X) (rest : Lines) → found_map Some o ≡ Read x rest → (y : X) × (Some y ≡ x) × (o ≡ Read y rest)
@@ -412,18 +396,18 @@ titled-exact {X} title text ok stop reader one = record { sound = sound; keeps =
     some-bad (Read y r) rest h = absurd cc
     some-bad (Bad r) rest h = ap Bad (same_bad {X = Option X} r rest h)
     by-sound : (l : List ℕ) (t : Bool) (lines rest : Lines) (x : Option X) → (t ≡ true → l ≡ title) → cond t (found_map Some (reader lines)) (Read None (l ∷ lines)) ≡ Read x rest
-        → IsTitled ok x × (l ∷ lines ≡ titled_text title text x ++ rest)
+        → IfThere ok x × (l ∷ lines ≡ titled_text title text x ++ rest)
     by-sound l true lines rest x is h =
         let p = some (reader lines) x rest h in
         let s = one.sound lines rest p.0 p.2 in
-        (subst (IsTitled ok) p.1 s.0, (λ i. is refl i ∷ s.1 i) ∙ ap (λ (y : Option X). titled_text title text y ++ rest) p.1)
+        (subst (IfThere ok) p.1 s.0, (λ i. is refl i ∷ s.1 i) ∙ ap (λ (y : Option X). titled_text title text y ++ rest) p.1)
     by-sound l false lines rest x is h =
         let same = same_value None x (l ∷ lines) rest h in
-        (subst (IsTitled ok) same tt, same_rest None x (l ∷ lines) rest h ∙ ap (λ (y : Option X). titled_text title text y ++ rest) same)
-    sound : (lines rest : Lines) (x : Option X) → titled title reader lines ≡ Read x rest → IsTitled ok x × (lines ≡ titled_text title text x ++ rest)
+        (subst (IfThere ok) same tt, same_rest None x (l ∷ lines) rest h ∙ ap (λ (y : Option X). titled_text title text y ++ rest) same)
+    sound : (lines rest : Lines) (x : Option X) → titled title reader lines ≡ Read x rest → IfThere ok x × (lines ≡ titled_text title text x ++ rest)
     sound [] rest x h =
         let same = same_value None x [] rest h in
-        (subst (IsTitled ok) same tt, same_rest None x [] rest h ∙ ap (λ (y : Option X). titled_text title text y ++ rest) same)
+        (subst (IfThere ok) same tt, same_rest None x [] rest h ∙ ap (λ (y : Option X). titled_text title text y ++ rest) same)
     sound (l ∷ lines) rest x h = by-sound l (same_text l title) lines rest x (same_text-eq l title) h
     headed : (good : Lines) (m l : List ℕ) (lines after other : Lines) → same_text m title ≡ false → m ∷ lines ≡ good ++ l ∷ after → titled title reader (good ++ l ∷ other) ≡ Read None (good ++ l ∷ other)
     headed [] m l lines after other differs is = let same = same_head m l lines after is in rw (rw same at differs) refl
@@ -445,7 +429,7 @@ titled-exact {X} title text ok stop reader one = record { sound = sound; keeps =
         nothing [] l after e = cc e
         nothing (g ∷ good) l after e = cc e
     keeps (m ∷ lines) rest x h good l after other is = by-keeps m (same_text m title) lines rest x refl h good l after other is
-    own : (x : Option X) (rest : Lines) → IsTitled ok x → stands (titled_stop title stop) rest ≡ true → titled title reader (titled_text title text x ++ rest) ≡ Read x rest
+    own : (x : Option X) (rest : Lines) → IfThere ok x → stands (titled_stop title stop) rest ≡ true → titled title reader (titled_text title text x ++ rest) ≡ Read x rest
     own None [] h s = refl
     own None (l ∷ rest) h s = rw (not-true (same_text l title) (and_parts (not (same_text l title)) (stop l) s).0) refl
     own (Some x) rest h s = rw (same_text-refl title, one.own x rest h (weaker rest s)) refl
@@ -454,7 +438,7 @@ titled-exact {X} title text ok stop reader one = record { sound = sound; keeps =
         weaker [] s = refl
         weaker (l ∷ rest) s = (and_parts (not (same_text l title)) (stop l) s).1
     by-bad : (l : List ℕ) (t : Bool) (lines rest : Lines) → same_text l title ≡ t → cond t (found_map Some (reader lines)) (Read None (l ∷ lines)) ≡ Bad rest
-        → BadAt (titled_text title text) (IsTitled ok) (titled title reader) (l ∷ lines) rest
+        → BadAt (titled_text title text) (IfThere ok) (titled title reader) (l ∷ lines) rest
     by-bad l true lines rest t h =
         let b = one.bad lines rest (some-bad (reader lines) rest h) in (
           l ∷ b.0,
@@ -463,6 +447,6 @@ titled-exact {X} title text ok stop reader one = record { sound = sound; keeps =
           λ m after other is. rw (t, b.3 m after other is) refl,
         )
     by-bad l false lines rest t h = absurd cc
-    bad : (lines rest : Lines) → titled title reader lines ≡ Bad rest → BadAt (titled_text title text) (IsTitled ok) (titled title reader) lines rest
+    bad : (lines rest : Lines) → titled title reader lines ≡ Bad rest → BadAt (titled_text title text) (IfThere ok) (titled title reader) lines rest
     bad [] rest h = absurd cc
     bad (l ∷ lines) rest h = by-bad l (same_text l title) lines rest refl h

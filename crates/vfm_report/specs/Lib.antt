@@ -14,3 +14,5 @@ pub mod LineList
 pub mod Finding
 pub mod Readers
 pub mod Parts
+pub mod Printed
+pub mod Reports

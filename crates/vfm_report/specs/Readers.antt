@@ -1,5 +1,5 @@
 -- The readers of a report's parts.
-use Rattle.std.specs.Prelude.{ℕ, ◌+◌, Bool, List, [], ◌∷◌, ◌++◌, length, Option, Some, None, codes, if◌then◌else◌}
+use Rattle.std.specs.Prelude.{ℕ, ◌+◌, ◌&&◌, Bool, List, [], ◌∷◌, ◌++◌, length, Option, Some, None, codes, if◌then◌else◌}
 use Rattle.vfm_types.specs.declared.entry.Entry.{Entry}
 use Rattle.vfm_types.specs.declared.desc.Desc.{Desc}
 use Rattle.vfm_types.specs.Desc.{device_count, shape_at}
@@ -7,7 +7,7 @@ use Rattle.vfm_types.specs.Machine.{DeviceState, Machine}
 use Rattle.vfm_plain.specs.Legal.{is_entry_of}
 use Rattle.vfm_plain.specs.Report.{Made}
 use Rattle.vfm_report.specs.Maybe as maybe
-use Rattle.vfm_report.specs.Split.{words_of}
+use Rattle.vfm_report.specs.Split.{is_without, words_of}
 use Rattle.vfm_report.specs.Entries.{entry_of_line}
 use Rattle.vfm_report.specs.StateLines.{hex_of, named_word, counts_of, bar_word, pending_of}
 use Rattle.vfm_report.specs.StatusLine.{is_status_line}
@@ -45,9 +45,9 @@ entry_if D (Some e) = if is_entry_of D e then Some e else None
 abbrev pub entry_in : Desc → List ℕ → Option Entry
 entry_in D l = entry_if D (entry_of_line l)
 
--- a status line, which is kept as it is
+-- a status line, which has no line feed and is kept as it is
 abbrev pub status_in : Desc → List ℕ → Option (List ℕ)
-status_in D l = if is_status_line D l then Some l else None
+status_in D l = if is_without 10 l && is_status_line D l then Some l else None
 
 -- the bytes of BARs of these sizes, numbered from k on
 abbrev pub numbered_bars : ℕ → ℕ → List ℕ → Reader (List ℕ)
