@@ -1,5 +1,5 @@
 -- Words that have neither a blank nor a line feed.
-use Rattle.std.proofs.Common.{◌≡◌, ℕ, zero, suc, ◌+◌, ◌/◌, ◌%◌, ◌<◌, ◌&&◌, List, [], ◌∷◌, true, false, refl, decimal, arith}
+use Rattle.std.proofs.Common.{◌≡◌, ℕ, zero, suc, ◌+◌, ◌/◌, ◌%◌, ◌<◌, List, [], ◌∷◌, true, false, refl, decimal, arith}
 use Rattle.std.specs.Prelude.{◌==◌, not}
 use Rattle.std.specs.List.{list_all}
 use Rattle.std.specs.Fmt.{digits_onto, digits, digit_glyph}
@@ -22,7 +22,7 @@ without-onto : (b k n : ℕ) (acc : List ℕ) → b < 48 → is_without b acc �
 without-onto b zero n acc low h = h
 without-onto b (suc k) n acc low h =
     let here : is_without b (digit_glyph false (n % 10) ∷ acc) ≡ true =
-        and_from (not (digit_glyph false (n % 10) == b)) (is_without b acc) (not_from_false (digit_glyph false (n % 10) == b) (glyph-without b (n % 10) low (omega arith))) h in
+    and_from (not (digit_glyph false (n % 10) == b)) (is_without b acc) (not_from_false (digit_glyph false (n % 10) == b) (glyph-without b (n % 10) low (omega arith))) h in
     cond_both (n / 10 == 0) _ _ (λ ds. is_without b ds ≡ true) (λ last. here) (λ more. without-onto b k (n / 10) (digit_glyph false (n % 10) ∷ acc) low here)
 
 pub without-decimal : (b n : ℕ) → b < 48 → is_without b (decimal n) ≡ true

@@ -1,8 +1,8 @@
 -- The lines of a report's parts put together are the parts' texts.
-use Rattle.std.proofs.Common.{◌≡◌, ℕ, zero, suc, ◌+◌, ◌<◌, List, [], ◌∷◌, ◌++◌, take, drop, Option, Some, None, true, false, Bool, refl, ap, sym, ◌∙◌, decimal, arith, append_assoc, append-nil}
-use Rattle.std.specs.Prelude.{codes, not, ◌==◌, ◌&&◌}
+use Rattle.std.proofs.Common.{◌≡◌, ℕ, zero, suc, ◌+◌, List, [], ◌∷◌, ◌++◌, take, drop, Option, Some, None, true, refl, ap, sym, ◌∙◌, decimal, arith, append_assoc, append-nil}
+use Rattle.std.specs.Prelude.{codes, not, ◌==◌}
 use Rattle.std.specs.List.{flat_map}
-use Rattle.std.proofs.lemmas.Bool.{and_from, and_parts, not_from_false, ne_eqb}
+use Rattle.std.proofs.lemmas.Bool.{and_from, and_parts}
 use Rattle.vfm_types.specs.declared.entry.Entry.{Entry}
 use Rattle.vfm_types.specs.declared.entry.Entry.TheVariants.{Issue, Deliver, Complete, Hold, Arc, Fail, Report, Pass, Copy, Block, Dry, Begin, Joint, Abort, Resume}
 use Rattle.vfm_types.specs.declared.state.MigState.{MigState}
@@ -10,16 +10,16 @@ use Rattle.vfm_types.specs.declared.state.MigState.TheVariants.{Error, Stop, Run
 use Rattle.vfm_types.specs.declared.desc.Desc.{Desc}
 use Rattle.vfm_types.specs.Desc.{shape_at, device_count}
 use Rattle.vfm_types.specs.Machine.{DeviceState, Machine}
-use Rattle.vfm_plain.specs.Text.{line, numbered_text, state_name}
-use Rattle.vfm_plain.specs.EntryText.{entry_line, journal_text}
-use Rattle.vfm_plain.specs.StateText.{page_line, pages_text, pending_line, numbered_bar_line, pieces, bars_text, device_state_text, described_text, devices_text, state_text}
-use Rattle.vfm_plain.specs.Report.{Made, journal_part, state_part, if_there, parts_text, report_text}
+use Rattle.vfm_plain.specs.Text.{numbered_text, state_name}
+use Rattle.vfm_plain.specs.EntryText.{journal_text}
+use Rattle.vfm_plain.specs.StateText.{page_line, pending_line, numbered_bar_line, pieces, bars_text, described_text, devices_text, state_text}
+use Rattle.vfm_plain.specs.Report.{if_there, parts_text}
 use Rattle.vfm_report.specs.Split.{is_without}
 use Rattle.vfm_report.specs.LineList.{unlined}
 use Rattle.vfm_report.specs.Readers.{Parts, made_from}
-use Rattle.vfm_report.specs.Printed.{Each, EachOf, IsSized, IsPrintedRequest, IsPrintedDevice, IsPrintedState, IsPrintedEntry, IsPrintedJournal, IfThere}
-use Rattle.vfm_report.proofs.Joins.{joined, all_without}
-use Rattle.vfm_report.proofs.Blanks.{without-decimal, without-name}
+use Rattle.vfm_report.specs.Printed.{EachOf, IsSized, IsPrintedDevice, IsPrintedState, IsPrintedJournal, IfThere}
+use Rattle.vfm_report.proofs.Joins.{all_without}
+use Rattle.vfm_report.proofs.Blanks.{without-decimal}
 use Rattle.vfm_report.proofs.EntryWords.{entry_words, entry_line-words}
 use Rattle.vfm_report.proofs.LineLists.{are_clean}
 use Rattle.vfm_report.proofs.LineKinds.{line_of, byte_words, byte-words-without, bar_words, bar-words-without, pending_words, pending-words-without, counts_words, counts-words-without}
@@ -178,9 +178,10 @@ clean-bytes name n size bytes clear h = clean-line (byte_words name n bytes) (by
 
 clean-bars : (d k : ℕ) (sizes bytes : List ℕ) (size : ℕ) → IsSized size bytes → are_clean (bars_lines d k sizes bytes)
 clean-bars d k [] bytes all h = tt
-clean-bars d k (size ∷ sizes) bytes all h =
-    (clean-line (bar_words d k (take size bytes)) (bar-words-without 10 d k (take size bytes) (omega arith) (take-bytes size bytes h.small)),
-     clean-bars d (k + 1) sizes (drop size bytes) _ (record { many = refl; small = drop-bytes size bytes h.small }))
+clean-bars d k (size ∷ sizes) bytes all h = (
+  clean-line (bar_words d k (take size bytes)) (bar-words-without 10 d k (take size bytes) (omega arith) (take-bytes size bytes h.small)),
+  clean-bars d (k + 1) sizes (drop size bytes) _ (record { many = refl; small = drop-bytes size bytes h.small }),
+)
 
 clean-all-bars : (d : ℕ) (sizes bytes : List ℕ) (size : ℕ) → IsSized size bytes → are_clean (all_bars_lines d sizes bytes)
 clean-all-bars d [] bytes all h = tt
@@ -188,10 +189,13 @@ clean-all-bars d (size ∷ []) bytes all h = (clean-bytes (codes "bar") d all by
 clean-all-bars d (size ∷ next ∷ sizes) bytes all h = clean-bars d 0 (size ∷ next ∷ sizes) bytes all h
 
 clean-device : (D : Desc) (d : ℕ) (dev : DeviceState) → IsClear D d → IsPrintedDevice D d dev → are_clean (device_lines D d dev)
-clean-device D d dev clear h =
-    (clean-line (counts_words d (shape_at D d).name (dev.accepted, dev.done, dev.lost)) (counts-words-without 10 d (shape_at D d).name (dev.accepted, dev.done, dev.lost) (omega arith) clear.feed),
-    (clean-bytes (codes "buf") d 64 dev.buf refl h.buf,
-    clean-append (all_bars_lines d (shape_at D d).bars dev.bar) _ (clean-all-bars d (shape_at D d).bars dev.bar _ h.bar) (clean-pending d dev.pending)))
+clean-device D d dev clear h = (
+  clean-line (counts_words d (shape_at D d).name (dev.accepted, dev.done, dev.lost)) (counts-words-without 10 d (shape_at D d).name (dev.accepted, dev.done, dev.lost) (omega arith) clear.feed),
+  (
+    clean-bytes (codes "buf") d 64 dev.buf refl h.buf,
+    clean-append (all_bars_lines d (shape_at D d).bars dev.bar) _ (clean-all-bars d (shape_at D d).bars dev.bar _ h.bar) (clean-pending d dev.pending),
+  ),
+)
 
 clean-row : {X : Type 0} (lines : ℕ → X → Lines) (ok : ℕ → X → Type 0) → ((k : ℕ) (x : X) → ok k x → are_clean (lines k x)) → (n k : ℕ) (xs : List X) → EachOf ok n k xs → are_clean (row_text lines k xs)
 clean-row lines ok each zero k [] h = tt
@@ -213,9 +217,11 @@ pub clean-parts : (D : Desc) → ((d : ℕ) → IsClear D d) → (p : Parts) →
 clean-parts D clear p h =
     let state = clean-state D clear in
     let S = state_lines D in
-    let ok = IsPrintedState D in
-    (refl, clean-append (journal_lines p.1.0) _ (clean-journal p.1.0)
-    (clean-append (titled_text (codes "state joint") S p.1.1.0) _ (clean-titled (codes "state joint") S ok refl state p.1.1.0 h.1.1.0)
-    (clean-append (titled_text (codes "state loaded") S p.1.1.1.0) _ (clean-titled (codes "state loaded") S ok refl state p.1.1.1.0 h.1.1.1.0)
-    (clean-append (titled_text (codes "journal destination") journal_lines p.1.1.1.1.0) _ (clean-titled (codes "journal destination") journal_lines (IsPrintedJournal D) refl (λ entries j. clean-journal entries) p.1.1.1.1.0 h.1.1.1.1.0)
-    (clean-append (titled_text (codes "state final") S p.1.1.1.1.1.0) _ (clean-titled (codes "state final") S ok refl state p.1.1.1.1.1.0 h.1.1.1.1.1.0) (refl, tt))))))
+    let ok = IsPrintedState D in (
+      refl,
+      clean-append (journal_lines p.1.0) _ (clean-journal p.1.0)
+          (clean-append (titled_text (codes "state joint") S p.1.1.0) _ (clean-titled (codes "state joint") S ok refl state p.1.1.0 h.1.1.0)
+          (clean-append (titled_text (codes "state loaded") S p.1.1.1.0) _ (clean-titled (codes "state loaded") S ok refl state p.1.1.1.0 h.1.1.1.0)
+          (clean-append (titled_text (codes "journal destination") journal_lines p.1.1.1.1.0) _ (clean-titled (codes "journal destination") journal_lines (IsPrintedJournal D) refl (λ entries j. clean-journal entries) p.1.1.1.1.0 h.1.1.1.1.0)
+          (clean-append (titled_text (codes "state final") S p.1.1.1.1.1.0) _ (clean-titled (codes "state final") S ok refl state p.1.1.1.1.1.0 h.1.1.1.1.1.0) (refl, tt))))),
+    )

@@ -1,23 +1,22 @@
 -- The parts of a report are read exactly.
-use Rattle.std.proofs.Common.{◌≡◌, ℕ, zero, suc, ◌+◌, ◌<◌, ◌^◌, ◌&&◌, List, [], ◌∷◌, ◌++◌, length, take, drop, get_or, Option, Some, None, true, false, Bool, refl, ap, sym, subst, ◌∙◌, cond, decimal, IsTrue, arith, append_assoc, length-append, length-drop, inl, inr}
-use Rattle.std.specs.Prelude.{codes, sum, replicate, is_none, ◌≤◌, not}
-use Rattle.std.proofs.lemmas.Bool.{and_from}
+use Rattle.std.proofs.Common.{◌≡◌, ℕ, zero, suc, ◌+◌, ◌<◌, ◌^◌, List, [], ◌∷◌, ◌++◌, length, take, drop, Option, Some, None, true, false, Bool, refl, ap, sym, subst, ◌∙◌, decimal, arith, length-append, length-drop}
+use Rattle.std.specs.Prelude.{codes, sum, is_none, ◌≤◌}
 use Rattle.std.proofs.lemmas.List.{take-append-drop}
 use Rattle.std.proofs.lemmas.List.Sums.{sum_by-cons}
 use Rattle.hex.specs.Hex.{IsBytes}
 use Rattle.vfm_types.specs.declared.entry.Entry.{Entry}
 use Rattle.vfm_types.specs.declared.desc.Desc.{Desc}
-use Rattle.vfm_types.specs.Desc.{device_count, shape_at, bar_bytes}
+use Rattle.vfm_types.specs.Desc.{device_count, shape_at}
 use Rattle.vfm_types.specs.Machine.{DeviceState, Machine}
 use Rattle.vfm_report.specs.Same.{same_text}
 use Rattle.vfm_report.specs.Split.{is_without, split, words_of}
-use Rattle.vfm_report.specs.Found.{Found, Read, Bad, Reader, ◌>>=◌, found_map, one_line, this_line, many_lines, in_turn, row, titled}
-use Rattle.vfm_report.specs.Readers.{page_in, counts_in, buf_in, only_bar_in, bar_in, pending_in, entry_in, status_in, numbered_bars, bars_reader, device_from, device_reader, machine_from, state_reader, journal_reader, Parts, parts_reader}
+use Rattle.vfm_report.specs.Found.{Found, Read, Bad, Reader, one_line, this_line, many_lines, in_turn, row}
+use Rattle.vfm_report.specs.Readers.{page_in, counts_in, buf_in, only_bar_in, bar_in, pending_in, entry_in, numbered_bars, bars_reader, device_from, device_reader, machine_from, state_reader, journal_reader, Parts, parts_reader}
 use Rattle.vfm_report.specs.Printed.{Each, EachOf, IsSized, IsPrintedRequest, AreCounts, IsPrintedDevice, IsPrintedState, IsPrintedEntry, IsPrintedJournal, IfThere}
-use Rattle.vfm_report.proofs.Joins.{joined, split-joined}
+use Rattle.vfm_report.proofs.Joins.{split-joined}
 use Rattle.vfm_report.proofs.EntryWords.{entry_words}
-use Rattle.vfm_report.proofs.LineKinds.{line_of, byte_words, bytes-exact, bar_words, bar-exact, pending_words, pending-exact, counts_words, counts-words-without, counts-exact, entry-exact, IsStatus, status-exact, title-exact}
-use Rattle.vfm_report.proofs.Exact.{Exact, BadAt, ExactLine, stands, any_line, stands-any, same_value, same_rest, one-exact, turn-exact, map-exact, many-exact, lines_each, row-exact, row_text, row_stop, titled-exact, titled_text, titled_stop}
+use Rattle.vfm_report.proofs.LineKinds.{line_of, byte_words, bytes-exact, bar_words, bar-exact, pending_words, pending-exact, counts_words, counts-words-without, counts-exact, entry-exact, title-exact}
+use Rattle.vfm_report.proofs.Exact.{Exact, stands, any_line, stands-any, same_value, same_rest, one-exact, turn-exact, map-exact, many-exact, lines_each, row-exact, row_text, row_stop, titled-exact, titled_text, titled_stop}
 
 abbrev Lines : Type 0
 Lines = List (List ℕ)
@@ -109,15 +108,16 @@ numbered-exact d k (size ∷ sizes) =
     let first = one-exact (λ bytes. line_of (bar_words d k bytes)) (IsSized size) (bar_in d k size) (zeros size) (zeros-sized size) (bar-exact d k size) in
     let more = numbered-exact d (k + 1) sizes in
     let pair = turn-any (λ bytes. line_of (bar_words d k bytes) ∷ []) (IsSized size) (one_line (bar_in d k size)) (bars_lines d (k + 1) sizes) (IsSized (sum sizes)) any_line (numbered_bars d (k + 1) sizes)
-        (zeros (sum sizes)) (zeros-sized (sum sizes)) first more in
+    (zeros (sum sizes)) (zeros-sized (sum sizes)) first more in
     map-exact (λ (p : List ℕ × List ℕ). line_of (bar_words d k p.0) ∷ [] ++ bars_lines d (k + 1) sizes p.1) (λ (p : List ℕ × List ℕ). IsSized size p.0 × IsSized (sum sizes) p.1)
-        (bars_lines d k (size ∷ sizes)) (IsSized (sum (size ∷ sizes))) any_line _ (λ (p : List ℕ × List ℕ). p.0 ++ p.1) pair to from
+    (bars_lines d k (size ∷ sizes)) (IsSized (sum (size ∷ sizes))) any_line _ (λ (p : List ℕ × List ℕ). p.0 ++ p.1) pair to from
   where
     to : (p : List ℕ × List ℕ) → IsSized size p.0 × IsSized (sum sizes) p.1 → IsSized (sum (size ∷ sizes)) (p.0 ++ p.1) × (bars_lines d k (size ∷ sizes) (p.0 ++ p.1) ≡ line_of (bar_words d k p.0) ∷ [] ++ bars_lines d (k + 1) sizes p.1)
     to p h =
         let front = take-front p.0 p.1 size h.0.many in
         let back = drop-front p.0 p.1 size h.0.many in
         (record { many = omega (arith, length-append p.0 p.1, h.0.many, h.1.many, sum-cons size sizes); small = append-bytes p.0 p.1 h.0.small h.1.small }, rw (front, back) refl)
+
     from : (x : List ℕ) → IsSized (sum (size ∷ sizes)) x → (p : List ℕ × List ℕ) × (p.0 ++ p.1 ≡ x) × (IsSized size p.0 × IsSized (sum sizes) p.1)
     from x h =
         let total : length x ≡ size + sum sizes = h.many ∙ sum-cons size sizes in
@@ -170,14 +170,14 @@ device-exact D d clear =
     let buf = one-exact (λ bytes. line_of (byte_words (codes "buf") d bytes)) (IsSized 64) (buf_in d) (zeros 64) (zeros-sized 64) (bytes-exact (codes "buf") d 64 refl) in
     let counts = one-exact (λ c. line_of (counts_words d shape.name c)) AreCounts (counts_in D d) (0, 0, 0) no_counts (counts-exact D d clear.blank) in
     let last = turn-any (all_bars_lines d shape.bars) (IsSized (sum shape.bars)) (bars_reader d shape.bars) (lines_each (λ r. line_of (pending_words d r))) (Each (IsPrintedRequest D d)) (device_stop D d) (many_lines (pending_in D d))
-        [] tt bars pending in
+    [] tt bars pending in
     let middle = turn-any (λ bytes. line_of (byte_words (codes "buf") d bytes) ∷ []) (IsSized 64) (one_line (buf_in d)) _ _ (device_stop D d) _
-        (zeros (sum shape.bars), []) (zeros-sized (sum shape.bars), tt) buf last in
+    (zeros (sum shape.bars), []) (zeros-sized (sum shape.bars), tt) buf last in
     let whole = turn-any (λ c. line_of (counts_words d shape.name c) ∷ []) AreCounts (one_line (counts_in D d)) _ _ (device_stop D d) _
-        (zeros 64, (zeros (sum shape.bars), [])) (zeros-sized 64, (zeros-sized (sum shape.bars), tt)) counts middle in
+    (zeros 64, (zeros (sum shape.bars), [])) (zeros-sized 64, (zeros-sized (sum shape.bars), tt)) counts middle in
     map-exact _ _ (device_lines D d) (IsPrintedDevice D d) (device_stop D d) _ device_from whole
-        (λ p h. (record { counts = h.0; buf = h.1.0; bar = h.1.1.0; pending = h.1.1.1 }, refl))
-        (λ dev h. (((dev.accepted, dev.done, dev.lost), (dev.buf, (dev.bar, dev.pending))), refl, (h.counts, (h.buf, (h.bar, h.pending)))))
+    (λ p h. (record { counts = h.0; buf = h.1.0; bar = h.1.1.0; pending = h.1.1.1 }, refl))
+    (λ dev h. (((dev.accepted, dev.done, dev.lost), (dev.buf, (dev.bar, dev.pending))), refl, (h.counts, (h.buf, (h.bar, h.pending)))))
 
 -- ---- a state
 
@@ -230,15 +230,15 @@ pub state-exact : (D : Desc) → ((d : ℕ) → IsClear D d) → Exact (state_li
 state-exact D clear =
     let page = λ (p : ℕ). one-exact (λ bytes. line_of (byte_words (codes "page") p bytes)) (IsSized D.page) (page_in D p) (zeros D.page) (zeros-sized D.page) (bytes-exact (codes "page") p D.page refl) in
     let pages = row-exact page_lines (λ p. IsSized D.page) (λ p. any_line) (λ p. one_line (page_in D p)) (λ p. zeros D.page) (λ p. zeros-sized D.page) page
-        (λ k x rest h. stands-any (page_lines (k + 1) x ++ rest)) D.pages 0 in
+    (λ k x rest h. stands-any (page_lines (k + 1) x ++ rest)) D.pages 0 in
     let devices = row-exact (device_lines D) (IsPrintedDevice D) (device_stop D) (device_reader D) (zero_device D) (zero_device-ok D) (λ d. device-exact D d (clear d)) (next-device D clear) (device_count D) 0 in
     let both = turn-exact (row_text page_lines 0) (EachOf (λ p. IsSized D.page) D.pages 0) (row_stop (λ p. any_line) D.pages 0) (row (λ p. one_line (page_in D p)) D.pages 0)
-        (row_text (device_lines D) 0) (EachOf (IsPrintedDevice D) (device_count D) 0) (state_stop D) (row (device_reader D) (device_count D) 0) (state_stop D)
-        (zero_devices D (device_count D) 0) (zero_devices-ok D (device_count D) 0) pages devices
-        (λ y rest h s. (s, any-row D.pages 0 (row_text (device_lines D) 0 y ++ rest))) in
+    (row_text (device_lines D) 0) (EachOf (IsPrintedDevice D) (device_count D) 0) (state_stop D) (row (device_reader D) (device_count D) 0) (state_stop D)
+    (zero_devices D (device_count D) 0) (zero_devices-ok D (device_count D) 0) pages devices
+    (λ y rest h s. (s, any-row D.pages 0 (row_text (device_lines D) 0 y ++ rest))) in
     map-exact _ _ (state_lines D) (IsPrintedState D) (state_stop D) _ machine_from both
-        (λ p h. (record { pages = h.0; devices = h.1 }, refl))
-        (λ m h. ((m.pages, m.devices), refl, (h.pages, h.devices)))
+    (λ p h. (record { pages = h.0; devices = h.1 }, refl))
+    (λ m h. ((m.pages, m.devices), refl, (h.pages, h.devices)))
 
 -- a title may stand after a state
 title-after : (D : Desc) (title : List ℕ) → ((d : ℕ) → device_stop D d title ≡ true) → (n k : ℕ) → row_stop (device_stop D) n k title ≡ true
@@ -336,18 +336,18 @@ parts-exact D clear =
     let e7 = one-exact (λ (u : Unit {0}). codes "end") (λ u. Unit {0}) _ tt tt (title-exact (codes "end")) in
     let p6 = part (titled_text (codes "state final") S) (IfThere okS) stop-f _ (λ (u : Unit {0}). codes "end" ∷ []) (λ u. Unit {0}) _ tt tt tF e7 (end-head stop-f (end-after D)) in
     let p5 = part (titled_text (codes "journal destination") journal_lines) (IfThere okJ) stop-d _ _ _ _ (None, tt) (tt, tt) tD p6
-        (heads-titled stop-d (codes "state final") S okS (λ (u : Unit {0}). codes "end" ∷ []) (λ u. Unit {0}) js.3 (end-head stop-d js.4)) in
+    (heads-titled stop-d (codes "state final") S okS (λ (u : Unit {0}). codes "end" ∷ []) (λ u. Unit {0}) js.3 (end-head stop-d js.4)) in
     let p4 = part (titled_text (codes "state loaded") S) (IfThere okS) stop-l _ _ _ _ (None, (None, tt)) (tt, (tt, tt)) tL p5
-        (heads-titled stop-l (codes "journal destination") journal_lines okJ _ _ (destination-after D)
-        (heads-titled stop-l (codes "state final") S okS (λ (u : Unit {0}). codes "end" ∷ []) (λ u. Unit {0}) (final-after D) (end-head stop-l (end-after D)))) in
+    (heads-titled stop-l (codes "journal destination") journal_lines okJ _ _ (destination-after D)
+    (heads-titled stop-l (codes "state final") S okS (λ (u : Unit {0}). codes "end" ∷ []) (λ u. Unit {0}) (final-after D) (end-head stop-l (end-after D)))) in
     let p3 = part (titled_text (codes "state joint") S) (IfThere okS) stop-j _ _ _ _ (None, (None, (None, tt))) (tt, (tt, (tt, tt))) tJ p4
-        (heads-titled stop-j (codes "state loaded") S okS _ _ (loaded-after D)
-        (heads-titled stop-j (codes "journal destination") journal_lines okJ _ _ (destination-after D)
-        (heads-titled stop-j (codes "state final") S okS (λ (u : Unit {0}). codes "end" ∷ []) (λ u. Unit {0}) (final-after D) (end-head stop-j (end-after D))))) in
+    (heads-titled stop-j (codes "state loaded") S okS _ _ (loaded-after D)
+    (heads-titled stop-j (codes "journal destination") journal_lines okJ _ _ (destination-after D)
+    (heads-titled stop-j (codes "state final") S okS (λ (u : Unit {0}). codes "end" ∷ []) (λ u. Unit {0}) (final-after D) (end-head stop-j (end-after D))))) in
     let p2 = part journal_lines okJ (journal_stop D) (journal_reader D) _ _ _ (None, (None, (None, (None, tt)))) (tt, (tt, (tt, (tt, tt)))) journal p3
-        (heads-titled (journal_stop D) (codes "state joint") S okS _ _ js.0
-        (heads-titled (journal_stop D) (codes "state loaded") S okS _ _ js.1
-        (heads-titled (journal_stop D) (codes "journal destination") journal_lines okJ _ _ js.2
-        (heads-titled (journal_stop D) (codes "state final") S okS (λ (u : Unit {0}). codes "end" ∷ []) (λ u. Unit {0}) js.3 (end-head (journal_stop D) js.4))))) in
+    (heads-titled (journal_stop D) (codes "state joint") S okS _ _ js.0
+    (heads-titled (journal_stop D) (codes "state loaded") S okS _ _ js.1
+    (heads-titled (journal_stop D) (codes "journal destination") journal_lines okJ _ _ js.2
+    (heads-titled (journal_stop D) (codes "state final") S okS (λ (u : Unit {0}). codes "end" ∷ []) (λ u. Unit {0}) js.3 (end-head (journal_stop D) js.4))))) in
     turn-any (λ (u : Unit {0}). codes "journal source" ∷ []) (λ u. Unit {0}) (this_line (codes "journal source")) _ _ any_line _
-        ([], (None, (None, (None, (None, tt))))) (tt, (tt, (tt, (tt, (tt, tt))))) (one-exact (λ (u : Unit {0}). codes "journal source") (λ u. Unit {0}) _ tt tt (title-exact (codes "journal source"))) p2
+    ([], (None, (None, (None, (None, tt))))) (tt, (tt, (tt, (tt, (tt, tt))))) (one-exact (λ (u : Unit {0}). codes "journal source") (λ u. Unit {0}) _ tt tt (title-exact (codes "journal source"))) p2

@@ -1,27 +1,25 @@
 -- Each kind of line of a report is read exactly.
-use Rattle.std.proofs.Common.{◌≡◌, ℕ, ◌+◌, ◌<◌, ◌^◌, ◌&&◌, List, [], ◌∷◌, ◌++◌, length, Option, Some, None, true, false, Bool, refl, ap, sym, subst, ◌∙◌, cond, decimal, IsTrue, arith}
+use Rattle.std.proofs.Common.{◌≡◌, ℕ, ◌<◌, ◌^◌, ◌&&◌, List, [], ◌∷◌, length, Option, Some, None, true, refl, ap, sym, subst, ◌∙◌, decimal, arith}
 use Rattle.std.specs.Prelude.{codes, nat_lt, ◌≤◌, if◌then◌else◌}
 use Rattle.std.proofs.lemmas.List.{append_cancel_right}
-use Rattle.std.specs.List.{list_all}
 use Rattle.std.specs.Option.{option_map}
-use Rattle.std.proofs.lemmas.Bool.{and_parts, lt-ltb, ltb-true, true≢false, cases_lt}
+use Rattle.std.proofs.lemmas.Bool.{and_parts, lt-ltb, ltb-true}
 use Rattle.std.proofs.lemmas.Option.{same_Some, cond_some}
 use Rattle.hex.specs.Hex.{encode_lower, IsBytes}
 use Rattle.vfm_types.specs.declared.entry.Entry.{Entry}
-use Rattle.vfm_types.specs.Entry.{entry_fits}
 use Rattle.vfm_types.specs.declared.desc.Desc.{Desc}
-use Rattle.vfm_types.specs.Desc.{device_count, shape_at}
+use Rattle.vfm_types.specs.Desc.{shape_at}
 use Rattle.vfm_plain.specs.Legal.{is_entry_of}
 use Rattle.vfm_report.specs.Same.{same_text}
-use Rattle.vfm_report.specs.Split.{is_without, split, words_of}
+use Rattle.vfm_report.specs.Split.{is_without, words_of}
 use Rattle.vfm_report.specs.Counted.{one_word, two_words}
-use Rattle.vfm_report.specs.Numbers.{number_below, number_of}
-use Rattle.vfm_report.specs.HexWord.{is_low_digit, is_hex, hex_value}
+use Rattle.vfm_report.specs.Numbers.{number_of}
+use Rattle.vfm_report.specs.HexWord.{is_hex, hex_value}
 use Rattle.vfm_report.specs.Maybe.{◌>>=◌}
-use Rattle.vfm_report.specs.StateLines.{after_word, number_then, hex_of, named_word, counts_of, bar_word, pending_of}
+use Rattle.vfm_report.specs.StateLines.{after_word, number_then, named_word, counts_of, bar_word, pending_of}
 use Rattle.vfm_report.specs.StatusLine.{is_status_line}
 use Rattle.vfm_report.specs.Entries.{entry_of_line}
-use Rattle.vfm_report.specs.Readers.{bytes_if, page_in, counts_in, buf_in, only_bar_in, bar_in, pending_in, entry_if, entry_in, status_in}
+use Rattle.vfm_report.specs.Readers.{bytes_if, counts_in, bar_in, pending_in, entry_if, entry_in, status_in}
 use Rattle.vfm_report.specs.Printed.{IsSized, IsPrintedRequest, AreCounts, IsPrintedEntry}
 use Rattle.vfm_report.proofs.Texts.{same_text-refl, same_text-eq}
 use Rattle.vfm_report.proofs.Numerals.{number_below-decimal, number_below-is}
@@ -164,7 +162,7 @@ pending-is d jobs ws r h =
     let n-is = number_below-is (2 ^ 32) t.0.0 n.0 n.1 in
     let j-is = number_below-is (2 ^ 32) t.0.1 j.0 j.1 in
     let words : ws ≡ pending_words d (n.0, j.0) =
-        after-is (codes "pend") ws a.0 a.1 ∙ ap (λ (q : List (List ℕ)). codes "pend" ∷ q) (after-is (decimal d) a.0 b.0 b.1 ∙ ap (λ (q : List (List ℕ)). decimal d ∷ q) (two-is b.0 t.0 t.1 ∙ (λ i. sym n-is.1 i ∷ sym j-is.1 i ∷ []))) in (
+    after-is (codes "pend") ws a.0 a.1 ∙ ap (λ (q : List (List ℕ)). codes "pend" ∷ q) (after-is (decimal d) a.0 b.0 b.1 ∙ ap (λ (q : List (List ℕ)). decimal d ∷ q) (two-is b.0 t.0 t.1 ∙ (λ i. sym n-is.1 i ∷ sym j-is.1 i ∷ []))) in (
       words ∙ ap (pending_words d) p.1,
       subst (λ (q : ℕ × ℕ). q.0 < 2 ^ 32) p.1 n-is.0,
       subst (λ (q : ℕ × ℕ). q.1 < jobs) p.1 (ltb-true j.0 jobs p.0),

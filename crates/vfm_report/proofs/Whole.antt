@@ -1,30 +1,33 @@
 -- A whole report is read exactly, and its first bad line found.
-use Rattle.std.proofs.Common.{◌≡◌, ℕ, zero, suc, ◌+◌, ◌-◌, ◌<◌, ◌≤◌, ◌^◌, List, [], ◌∷◌, ◌++◌, length, take, drop, Option, Some, None, true, false, Bool, refl, ap, sym, subst, ◌∙◌, arith, append_assoc, append-nil, length-append, inl, inr}
+use Rattle.std.proofs.Common.{◌≡◌, ℕ, zero, suc, ◌+◌, ◌-◌, ◌≤◌, ◌^◌, List, [], ◌∷◌, ◌++◌, length, take, Some, None, true, false, refl, ap, sym, subst, ◌∙◌, arith, append_assoc, append-nil, length-append, inl, inr}
 use Rattle.std.specs.Prelude.{◌⊎◌, codes}
-use Rattle.std.specs.Prelude.{◌==◌, not}
-use Rattle.std.proofs.lemmas.Bool.{and_from, not_from_false, cond_both}
+use Rattle.std.specs.Prelude.{◌==◌, not, ◌&&◌, nat_le}
+use Rattle.std.specs.List.{list_all}
+use Rattle.std.proofs.lemmas.List.{get_or_past}
+use Rattle.vfm_types.specs.Bytes.{is_name_byte}
+use Rattle.vfm_types.specs.declared.desc.DevShape.{DevShape}
+use Rattle.vfm_types.specs.Desc.{device_count, shape_at, no_shape}
+use Rattle.vfm_types.specs.Valid.{IsValid, ShapeInRange}
+use Rattle.vfm_report.proofs.Blanks.{without-name}
+use Rattle.std.proofs.lemmas.Bool.{and_from, and_parts, not_from_false, cond_both, cases_lt}
 use Rattle.vfm_types.specs.declared.desc.Desc.{Desc}
-use Rattle.vfm_plain.specs.Report.{Made, parts_text, report_text}
+use Rattle.vfm_plain.specs.Report.{Made, report_text}
 use Rattle.vfm_report.specs.Split.{is_without, split, before_pieces}
-use Rattle.vfm_report.specs.StatusLine.{is_status_line}
 use Rattle.vfm_report.specs.LineList.{but_last, whole_lines, after_lines, unlined}
-use Rattle.vfm_report.specs.Found.{Found, Read, Bad, Reader, found_map, one_line, in_turn}
-use Rattle.vfm_report.specs.Readers.{Parts, made_from, status_in, parts_reader}
+use Rattle.vfm_report.specs.Found.{Found, Read, Bad, found_map, one_line}
+use Rattle.vfm_report.specs.Readers.{Parts, made_from, status_in, parts_reader, whole_reader}
 use Rattle.vfm_report.specs.Printed.{IsPrinted, IfThere, IsPrintedState, IsPrintedJournal}
-use Rattle.vfm_report.specs.Reports.{IsReportUnder, IsReport, BeginsReport, first_lines, IsBadLine}
+use Rattle.vfm_report.specs.Reports.{IsReport, BeginsReport, first_lines, IsBadLine}
 use Rattle.vfm_report.proofs.LineLists.{are_clean, lines-together, whole_lines-first, whole_lines-unlined, after_lines-unlined}
 use Rattle.vfm_report.proofs.LineKinds.{IsStatus, status-exact}
-use Rattle.vfm_report.proofs.Exact.{Exact, BadAt, any_line, stands-any, same_value, same_rest, one-exact, turn-exact}
+use Rattle.vfm_report.proofs.Exact.{Exact, any_line, stands-any, same_value, same_rest, same_bad, one-exact, turn-exact}
 use Rattle.vfm_report.proofs.ExactParts.{IsClear, parts_lines, ArePrinted, parts-exact}
-use Rattle.vfm_report.proofs.Bytes.{unlined-append, unlined-one, parts-together, clean-append, clean-parts}
+use Rattle.vfm_report.proofs.Bytes.{unlined-append, parts-together, clean-parts}
 
 abbrev Lines : Type 0
 Lines = List (List ℕ)
 
--- a status line, and what follows it
-abbrev pub whole_reader : Desc → Reader (List ℕ × Parts)
-whole_reader D = in_turn (one_line (status_in D)) (parts_reader D)
-
+-- the lines of a status line and the parts
 abbrev pub whole_text : Desc → List ℕ × Parts → Lines
 whole_text D p = p.0 ∷ [] ++ parts_lines D p.1
 
@@ -49,9 +52,19 @@ abbrev parts_made : Made → Parts
 parts_made made = (tt, (made.source, (made.joint, (made.loaded, (made.destination, (made.final, tt))))))
 
 printed-parts : (D : Desc) (made : Made) → made.desc ≡ D → IsPrinted made → ArePrinted D (parts_made made)
-printed-parts D made same h =
-    (tt, (subst (λ (E : Desc). IsPrintedJournal E made.source) same h.source, (subst (λ (E : Desc). IfThere (IsPrintedState E) made.joint) same h.joint, (subst (λ (E : Desc). IfThere (IsPrintedState E) made.loaded) same h.loaded,
-    (subst (λ (E : Desc). IfThere (IsPrintedJournal E) made.destination) same h.destination, (subst (λ (E : Desc). IfThere (IsPrintedState E) made.final) same h.final, tt))))))
+printed-parts D made same h = (
+  tt,
+  (
+    subst (λ (E : Desc). IsPrintedJournal E made.source) same h.source,
+    (
+      subst (λ (E : Desc). IfThere (IsPrintedState E) made.joint) same h.joint,
+      (
+        subst (λ (E : Desc). IfThere (IsPrintedState E) made.loaded) same h.loaded,
+        (subst (λ (E : Desc). IfThere (IsPrintedJournal E) made.destination) same h.destination, (subst (λ (E : Desc). IfThere (IsPrintedState E) made.final) same h.final, tt)),
+      ),
+    ),
+  ),
+)
 
 made-same : (D : Desc) (made : Made) → made.desc ≡ D → made_from D (parts_made made) ≡ made
 made-same D made same = λ i. record { desc = sym same i; source = made.source; joint = made.joint; loaded = made.loaded; destination = made.destination; final = made.final }
@@ -64,14 +77,16 @@ clean-whole D clear p h = (h.0.feed, clean-parts D clear p.1 h.1)
 
 -- such lines are a report
 pub report-from : (D : Desc) (p : List ℕ × Parts) → IsWhole D p → IsReport D (unlined (whole_text D p)) (made_from D p.1)
-report-from D p h =
-    (p.0, record {
-      one_line = h.0.feed;
-      known = h.0.is;
-      described = refl;
-      printed = record { source = h.1.1.0; joint = h.1.1.1.0; loaded = h.1.1.1.1.0; destination = h.1.1.1.1.1.0; final = h.1.1.1.1.1.1.0 };
-      text = sym (text-lines D p.0 p.1);
-    })
+report-from D p h = (
+  p.0,
+  record {
+    one_line = h.0.feed;
+    known = h.0.is;
+    described = refl;
+    printed = record { source = h.1.1.0; joint = h.1.1.1.0; loaded = h.1.1.1.1.0; destination = h.1.1.1.1.1.0; final = h.1.1.1.1.1.1.0 };
+    text = sym (text-lines D p.0 p.1);
+  },
+)
 
 -- a report's lines, and the value that they have
 report-lines : (D : Desc) (bytes : List ℕ) (made : Made) → IsReport D bytes made → (p : List ℕ × Parts) × IsWhole D p × (bytes ≡ unlined (whole_text D p)) × (made_from D p.1 ≡ made)
@@ -111,7 +126,7 @@ pub read-report : (D : Desc) → ((d : ℕ) → IsClear D d) → (bytes : List �
 read-report D clear bytes p read none =
     let s = (whole-exact D clear).sound (whole_lines bytes) [] p read in
     let text : bytes ≡ unlined (whole_text D p) =
-        lines-together bytes ∙ (λ i. unlined (s.1 i) ++ none i) ∙ append-nil (unlined (whole_text D p ++ [])) ∙ ap unlined (append-nil (whole_text D p)) in
+    lines-together bytes ∙ (λ i. unlined (s.1 i) ++ none i) ∙ append-nil (unlined (whole_text D p ++ [])) ∙ ap unlined (append-nil (whole_text D p)) in
     subst (λ (b : List ℕ). IsReport D b (made_from D p.1)) (sym text) (report-from D p s.0)
 
 -- lines that begin the lines of a report
@@ -181,6 +196,7 @@ bad-line D bytes good rest is begins bad none =
         next l after =
             let size : length (good ++ l ∷ []) ≡ length good + 1 = length-append good (l ∷ []) in
             (λ i. take (sym size i) (sym (append_assoc good (l ∷ []) after) i)) ∙ take-good (good ++ l ∷ []) after
+
         first : (l : List ℕ) (after : Lines) → whole_lines bytes ≡ good ++ l ∷ after → first_lines (length good + 1) bytes ≡ unlined (good ++ l ∷ [])
         first l after is = ap (λ (ls : Lines). unlined (take (length good + 1) ls)) is ∙ ap unlined (next l after)
 
@@ -195,10 +211,10 @@ stopped-at D clear bytes rest h =
     let size : length (whole_lines bytes) - length rest ≡ length good = omega (arith, ap length b.1 ∙ length-append good rest) in
     subst (IsBadLine D bytes) (ap (λ (n : ℕ). n + 1) (sym size)) (bad-line D bytes good rest b.1 (begins-from D good b.2.2.0 b.2.0 b.2.1 b.2.2.1)
     (λ l after is more.
-        let clean = clean-good bytes good l after (b.1 ∙ ap (λ (r : Lines). good ++ r) is) in
-        let r = report-read D clear (unlined (good ++ l ∷ []) ++ more.0) more.1 more.2 in
-        let lines = lines-after (good ++ l ∷ []) more.0 clean ∙ append_assoc good (l ∷ []) (whole_lines more.0) in
-        read_or_bad r.0 [] (l ∷ whole_lines more.0) (sym r.1 ∙ ap (whole_reader D) lines ∙ b.3 l after (whole_lines more.0) is))
+    let clean = clean-good bytes good l after (b.1 ∙ ap (λ (r : Lines). good ++ r) is) in
+    let r = report-read D clear (unlined (good ++ l ∷ []) ++ more.0) more.1 more.2 in
+    let lines = lines-after (good ++ l ∷ []) more.0 clean ∙ append_assoc good (l ∷ []) (whole_lines more.0) in
+    read_or_bad r.0 [] (l ∷ whole_lines more.0) (sym r.1 ∙ ap (whole_reader D) lines ∙ b.3 l after (whole_lines more.0) is))
     (λ made is. let r = report-read D clear bytes made is in read_or_bad r.0 [] rest (sym r.1 ∙ h)))
   where
     read_or_bad : {X : Type 0} (x : X) (r s : Lines) → Read x r ≡ Bad s → ⊥
@@ -214,10 +230,82 @@ left-at D clear bytes p rest h left =
     let size : length (whole_lines bytes) - length rest ≡ length good = omega (arith, ap length s.1 ∙ length-append good rest) in
     subst (IsBadLine D bytes) (ap (λ (n : ℕ). n + 1) (sym size)) (bad-line D bytes good rest s.1 (begins-from D good [] p s.0 (sym (append-nil good)))
     (λ l after is more.
-        let clean = clean-good bytes good l after (s.1 ∙ ap (λ (r : Lines). good ++ r) is) in
-        let r = report-read D clear (unlined (good ++ l ∷ []) ++ more.0) more.1 more.2 in
-        let lines = lines-after (good ++ l ∷ []) more.0 clean ∙ append_assoc good (l ∷ []) (whole_lines more.0) in
-        let over = exact.keeps (whole_lines bytes) rest p h [] l after (whole_lines more.0) is in
-        let none : [] ≡ l ∷ whole_lines more.0 = same_rest r.0 p [] (l ∷ whole_lines more.0) (sym r.1 ∙ ap (whole_reader D) lines ∙ over) in
-        cc none)
+    let clean = clean-good bytes good l after (s.1 ∙ ap (λ (r : Lines). good ++ r) is) in
+    let r = report-read D clear (unlined (good ++ l ∷ []) ++ more.0) more.1 more.2 in
+    let lines = lines-after (good ++ l ∷ []) more.0 clean ∙ append_assoc good (l ∷ []) (whole_lines more.0) in
+    let over = exact.keeps (whole_lines bytes) rest p h [] l after (whole_lines more.0) is in
+    let none : [] ≡ l ∷ whole_lines more.0 = same_rest r.0 p [] (l ∷ whole_lines more.0) (sym r.1 ∙ ap (whole_reader D) lines ∙ over) in
+    cc none)
     (λ made is. let r = report-read D clear bytes made is in left (sym (same_rest r.0 p [] rest (sym r.1 ∙ h))) r.2))
+
+-- ---- what a call that reads answers
+
+-- names and jobs of a valid description
+clear-at : (shape : DevShape) → ShapeInRange shape → (is_without 32 shape.name ≡ true) × (is_without 10 shape.name ≡ true) × (length shape.jobs ≤ 2 ^ 32)
+clear-at shape h =
+    let name = (and_parts (nat_le 1 (length shape.name) && nat_le (length shape.name) 16) (list_all is_name_byte shape.name) h.name).1 in
+    (without-name 32 shape.name (omega arith) name, without-name 10 shape.name (omega arith) name, omega (arith, h.job_count))
+
+pub clear : (D : Desc) → IsValid D → (d : ℕ) → IsClear D d
+clear D valid d =
+    elim (cases_lt d (device_count D)) [
+      | inl there ↦ let c = clear-at (shape_at D d) (valid.in_range.devices d there) in record { blank = c.0; feed = c.1; jobs = c.2 }
+      | inr past ↦
+          let none : shape_at D d ≡ no_shape = get_or_past D.devices d no_shape past in
+          record { blank = rw none refl; feed = rw none refl; jobs = rw none (omega arith) }
+    ]
+
+found-value : (o : Found (List ℕ × Parts)) (parts : Parts) (rest : Lines) → found_map (λ p. p.1) o ≡ Read parts rest → (p : List ℕ × Parts) × (o ≡ Read p rest) × (p.1 ≡ parts)
+found-value (Read p r) parts rest h = (p, (λ i. Read p (same_rest p.1 parts r rest h i)), same_value p.1 parts r rest h)
+found-value (Bad r) parts rest h = absurd cc
+
+found-bad : (o : Found (List ℕ × Parts)) (rest : Lines) → found_map {Y = Parts} (λ p. p.1) o ≡ Bad rest → o ≡ Bad rest
+found-bad (Read p r) rest h = absurd cc
+found-bad (Bad r) rest h = ap Bad (same_bad {X = Parts} r rest h)
+
+pub answer-ok : (D : Desc) → IsValid D → (bytes : List ℕ) (parts : Parts) (rest : Lines) → found_map (λ p. p.1) (whole_reader D (whole_lines bytes)) ≡ Read parts rest → rest ≡ [] → after_lines bytes ≡ [] → IsReport D bytes (made_from D parts)
+answer-ok D valid bytes parts rest h none tail =
+    let p = found-value (whole_reader D (whole_lines bytes)) parts rest h in
+    subst (λ (q : Parts). IsReport D bytes (made_from D q)) p.2 (read-report D (clear D valid) bytes p.0 (p.1 ∙ ap (λ (r : Lines). Read p.0 r) none) tail)
+
+pub answer-left : (D : Desc) → IsValid D → (bytes : List ℕ) (parts : Parts) (rest : Lines) → found_map (λ p. p.1) (whole_reader D (whole_lines bytes)) ≡ Read parts rest → (rest ≡ [] → after_lines bytes ≡ [] → ⊥)
+    → IsBadLine D bytes (length (whole_lines bytes) - length rest + 1)
+answer-left D valid bytes parts rest h left =
+    let p = found-value (whole_reader D (whole_lines bytes)) parts rest h in
+    left-at D (clear D valid) bytes p.0 rest p.1 left
+
+pub answer-bad : (D : Desc) → IsValid D → (bytes : List ℕ) (rest : Lines) → found_map {Y = Parts} (λ p. p.1) (whole_reader D (whole_lines bytes)) ≡ Bad rest → IsBadLine D bytes (length (whole_lines bytes) - length rest + 1)
+answer-bad D valid bytes rest h = stopped-at D (clear D valid) bytes rest (found-bad (whole_reader D (whole_lines bytes)) rest h)
+
+-- ---- how many lines there are
+
+split-few : (b : ℕ) (xs : List ℕ) → length (split b xs) ≤ length xs + 1
+unfolding split
+split-few b [] = omega arith
+split-few b (x ∷ xs) = cond_both (x == b) ([] ∷ split b xs) (before_pieces x (split b xs)) (λ ps. length ps ≤ length (x ∷ xs) + 1) (λ here. omega (arith, split-few b xs)) (λ other. by (split b xs) (split-few b xs))
+  where
+    by : (ps : Lines) → length ps ≤ length xs + 1 → length (before_pieces x ps) ≤ length (x ∷ xs) + 1
+    by [] h = omega arith
+    by (p ∷ ps) h = omega arith
+
+but_last-few : (ps : Lines) (n : ℕ) → length ps ≤ n + 1 → length (but_last ps) ≤ n
+but_last-few [] n h = omega arith
+but_last-few (p ∷ []) n h = omega arith
+but_last-few (p ∷ q ∷ ps) zero h = absurd (omega arith)
+but_last-few (p ∷ q ∷ ps) (suc n) h = omega (arith, but_last-few (q ∷ ps) n (omega arith))
+
+-- no more lines than bytes
+pub few-lines : (bytes : List ℕ) → length (whole_lines bytes) ≤ length bytes
+few-lines bytes = but_last-few (split 10 bytes) (length bytes) (split-few 10 bytes)
+
+-- no more lines are left than there were
+pub left-few : (D : Desc) → IsValid D → (bytes : List ℕ) (parts : Parts) (rest : Lines) → found_map (λ p. p.1) (whole_reader D (whole_lines bytes)) ≡ Read parts rest → length rest ≤ length (whole_lines bytes)
+left-few D valid bytes parts rest h =
+    let p = found-value (whole_reader D (whole_lines bytes)) parts rest h in
+    let s = (whole-exact D (clear D valid)).sound (whole_lines bytes) rest p.0 p.1 in
+    omega (arith, ap length s.1 ∙ length-append (whole_text D p.0) rest)
+
+pub bad-few : (D : Desc) → IsValid D → (bytes : List ℕ) (rest : Lines) → found_map {Y = Parts} (λ p. p.1) (whole_reader D (whole_lines bytes)) ≡ Bad rest → length rest ≤ length (whole_lines bytes)
+bad-few D valid bytes rest h =
+    let b = (whole-exact D (clear D valid)).bad (whole_lines bytes) rest (found-bad (whole_reader D (whole_lines bytes)) rest h) in
+    omega (arith, ap length b.1 ∙ length-append b.0 rest)

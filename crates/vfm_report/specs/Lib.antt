@@ -16,3 +16,4 @@ pub mod Readers
 pub mod Parts
 pub mod Printed
 pub mod Reports
+pub mod Answer
