@@ -107,13 +107,13 @@ state_named-is word s h =
     name-step word _ _ _ s P h6 (λ e. e) (λ h7.
     name-step word _ _ _ s P h7 (λ e. e) (λ h8. absurd cc))))))))
 
-two-is : (ws : List (List ℕ)) (p : List ℕ × List ℕ) → two_words ws ≡ Some p → ws ≡ p.0 ∷ p.1 ∷ []
+pub two-is : (ws : List (List ℕ)) (p : List ℕ × List ℕ) → two_words ws ≡ Some p → ws ≡ p.0 ∷ p.1 ∷ []
 two-is [] p h = absurd cc
 two-is (a ∷ []) p h = absurd cc
 two-is (a ∷ b ∷ []) p h = ap (λ (q : List ℕ × List ℕ). q.0 ∷ q.1 ∷ []) (same_Some (a, b) p h)
 two-is (a ∷ b ∷ c ∷ ws) p h = absurd cc
 
-one-is : (ws : List (List ℕ)) (w : List ℕ) → one_word ws ≡ Some w → ws ≡ w ∷ []
+pub one-is : (ws : List (List ℕ)) (w : List ℕ) → one_word ws ≡ Some w → ws ≡ w ∷ []
 one-is [] p h = absurd cc
 one-is (a ∷ []) w h = ap (λ (q : List ℕ). q ∷ []) (same_Some a w h)
 one-is (a ∷ b ∷ ws) p h = absurd cc
@@ -241,17 +241,17 @@ entry_of_words-own Resume h = refl
 
 -- no word of an entry has a blank
 blankless : (e : Entry) → IsTrue (entry_fits e) → all_without 32 (entry_words e)
-blankless (Issue d n) h = let f = fit d n h in (refl, (without-decimal 32 d (omega arith) (omega arith), (without-decimal 32 n (omega arith) (omega arith), tt)))
-blankless (Deliver d n) h = let f = fit d n h in (refl, (without-decimal 32 d (omega arith) (omega arith), (without-decimal 32 n (omega arith) (omega arith), tt)))
-blankless (Complete d n) h = let f = fit d n h in (refl, (without-decimal 32 d (omega arith) (omega arith), (without-decimal 32 n (omega arith) (omega arith), tt)))
-blankless (Hold d to) h = let f = fit d (state_number to) h in (refl, (without-decimal 32 d (omega arith) (omega arith), (blankless-state to, tt)))
-blankless (Arc d to) h = let f = fit d (state_number to) h in (refl, (without-decimal 32 d (omega arith) (omega arith), (blankless-state to, tt)))
-blankless (Fail d to) h = let f = fit d (state_number to) h in (refl, (without-decimal 32 d (omega arith) (omega arith), (blankless-state to, tt)))
-blankless (Report d) h = let f = fit d 0 h in (refl, (without-decimal 32 d (omega arith) (omega arith), tt))
-blankless (Pass k) h = let f = fit 0 k h in (refl, (without-decimal 32 k (omega arith) (omega arith), tt))
-blankless (Copy p) h = let f = fit 0 p h in (refl, (without-decimal 32 p (omega arith) (omega arith), tt))
-blankless (Block d b) h = let f = fit d b h in (refl, (without-decimal 32 d (omega arith) (omega arith), (without-decimal 32 b (omega arith) (omega arith), tt)))
-blankless (Dry d) h = let f = fit d 0 h in (refl, (without-decimal 32 d (omega arith) (omega arith), tt))
+blankless (Issue d n) h = let f = fit d n h in (refl, (without-decimal 32 d (omega arith), (without-decimal 32 n (omega arith), tt)))
+blankless (Deliver d n) h = let f = fit d n h in (refl, (without-decimal 32 d (omega arith), (without-decimal 32 n (omega arith), tt)))
+blankless (Complete d n) h = let f = fit d n h in (refl, (without-decimal 32 d (omega arith), (without-decimal 32 n (omega arith), tt)))
+blankless (Hold d to) h = let f = fit d (state_number to) h in (refl, (without-decimal 32 d (omega arith), (blankless-state to, tt)))
+blankless (Arc d to) h = let f = fit d (state_number to) h in (refl, (without-decimal 32 d (omega arith), (blankless-state to, tt)))
+blankless (Fail d to) h = let f = fit d (state_number to) h in (refl, (without-decimal 32 d (omega arith), (blankless-state to, tt)))
+blankless (Report d) h = let f = fit d 0 h in (refl, (without-decimal 32 d (omega arith), tt))
+blankless (Pass k) h = let f = fit 0 k h in (refl, (without-decimal 32 k (omega arith), tt))
+blankless (Copy p) h = let f = fit 0 p h in (refl, (without-decimal 32 p (omega arith), tt))
+blankless (Block d b) h = let f = fit d b h in (refl, (without-decimal 32 d (omega arith), (without-decimal 32 b (omega arith), tt)))
+blankless (Dry d) h = let f = fit d 0 h in (refl, (without-decimal 32 d (omega arith), tt))
 blankless Begin h = (refl, tt)
 blankless Joint h = (refl, tt)
 blankless Abort h = (refl, tt)

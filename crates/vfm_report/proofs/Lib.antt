@@ -5,6 +5,10 @@ pub mod Joins
 pub mod Blanks
 pub mod HexWords
 pub mod Exact
+pub mod LineKinds
+pub mod ExactParts
+pub mod Bytes
+pub mod Whole
 pub mod LineLists
 pub mod Steps
 pub mod EntryWords

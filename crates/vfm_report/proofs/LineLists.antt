@@ -1,6 +1,5 @@
 -- Lines and the bytes that they are cut from.
-use Rattle.std.proofs.Common.{◌≡◌, ℕ, List, [], ◌∷◌, ◌++◌, true, false, Bool, refl, ap, sym, ◌∙◌, arith, append_assoc, append-nil}
-use Rattle.std.specs.List.{flat_map}
+use Rattle.std.proofs.Common.{◌≡◌, ℕ, List, [], ◌∷◌, ◌++◌, true, refl, ap, sym, ◌∙◌, append_assoc, append-nil}
 use Rattle.vfm_report.specs.Split.{is_without, split}
 use Rattle.vfm_report.specs.LineList.{but_last, last_piece, whole_lines, after_lines, unlined}
 use Rattle.vfm_report.proofs.Splits.{split-whole, split-first}

@@ -1,8 +1,8 @@
 -- Reading in loops: what was read so far, before what is read still.
-use Rattle.std.proofs.Common.{◌≡◌, ℕ, zero, suc, ◌+◌, ◌-◌, ◌<◌, ◌≤◌, List, [], ◌∷◌, ◌++◌, length, drop, Option, Some, None, true, false, Bool, refl, ap, sym, ◌∙◌, arith, append_assoc, append-nil, get_or}
+use Rattle.std.proofs.Common.{◌≡◌, ℕ, zero, suc, ◌+◌, ◌-◌, ◌<◌, ◌≤◌, List, [], ◌∷◌, ◌++◌, length, drop, Option, Some, None, refl, ap, sym, ◌∙◌, arith, append_assoc, append-nil, get_or}
 use Rattle.std.proofs.lemmas.List.{drop_more, drop_all}
 use Rattle.std.specs.Option.{option_map}
-use Rattle.vfm_report.specs.Found.{Found, Read, Bad, Reader, ◌>>=◌, found_map, one_line, many_lines, in_turn, row}
+use Rattle.vfm_report.specs.Found.{Found, Read, Bad, Reader, ◌>>=◌, found_map, one_line, row}
 use Rattle.std.specs.Prelude.{Err}
 use Rattle.vfm_report.specs.declared.stop.Stop.{Stop}
 use Rattle.vfm_report.specs.declared.stop.Stop.TheVariants.{BadLine, NoMemory}

@@ -14,3 +14,6 @@ pub mod LineList
 pub mod Finding
 pub mod Readers
 pub mod Parts
+pub mod Printed
+pub mod Reports
+pub mod Answer

@@ -1,5 +1,5 @@
 -- The lines of bytes that end with a line feed, and what stands after the last of them.
-use Rattle.std.specs.Prelude.{ℕ, ◌==◌, Bool, true, List, [], ◌∷◌, ◌++◌}
+use Rattle.std.specs.Prelude.{ℕ, List, [], ◌∷◌, ◌++◌}
 use Rattle.std.specs.List.{flat_map}
 use Rattle.vfm_report.specs.declared.lines.Lines.{Lines}
 use Rattle.vfm_report.specs.Split.{split}

@@ -1,5 +1,4 @@
 -- A report that was read, as its parts.
-use Rattle.std.specs.Prelude.{ℕ, Option}
 use Rattle.std.specs.Option.{option_map}
 use Rattle.vfm_report.specs.declared.report.Report.{Report}
 use Rattle.vfm_report.specs.Readers.{Parts}

@@ -1,17 +1,16 @@
 -- The readers of a report's parts.
-use Rattle.std.specs.Prelude.{ℕ, ◌+◌, Bool, List, [], ◌∷◌, ◌++◌, length, Option, Some, None, codes, if◌then◌else◌}
+use Rattle.std.specs.Prelude.{ℕ, ◌+◌, ◌&&◌, List, [], ◌∷◌, ◌++◌, length, Option, Some, None, codes, if◌then◌else◌}
 use Rattle.vfm_types.specs.declared.entry.Entry.{Entry}
 use Rattle.vfm_types.specs.declared.desc.Desc.{Desc}
 use Rattle.vfm_types.specs.Desc.{device_count, shape_at}
 use Rattle.vfm_types.specs.Machine.{DeviceState, Machine}
 use Rattle.vfm_plain.specs.Legal.{is_entry_of}
 use Rattle.vfm_plain.specs.Report.{Made}
-use Rattle.vfm_report.specs.Maybe as maybe
-use Rattle.vfm_report.specs.Split.{words_of}
+use Rattle.vfm_report.specs.Split.{is_without, words_of}
 use Rattle.vfm_report.specs.Entries.{entry_of_line}
 use Rattle.vfm_report.specs.StateLines.{hex_of, named_word, counts_of, bar_word, pending_of}
 use Rattle.vfm_report.specs.StatusLine.{is_status_line}
-use Rattle.vfm_report.specs.Found.{Found, Read, Reader, found_map, one_line, this_line, many_lines, in_turn, row, titled}
+use Rattle.vfm_report.specs.Found.{Read, Reader, found_map, one_line, this_line, many_lines, in_turn, row, titled}
 
 -- the bytes of a word that there is, where it has so many
 abbrev pub bytes_if : ℕ → Option (List ℕ) → Option (List ℕ)
@@ -45,9 +44,9 @@ entry_if D (Some e) = if is_entry_of D e then Some e else None
 abbrev pub entry_in : Desc → List ℕ → Option Entry
 entry_in D l = entry_if D (entry_of_line l)
 
--- a status line, which is kept as it is
+-- a status line, which has no line feed and is kept as it is
 abbrev pub status_in : Desc → List ℕ → Option (List ℕ)
-status_in D l = if is_status_line D l then Some l else None
+status_in D l = if is_without 10 l && is_status_line D l then Some l else None
 
 -- the bytes of BARs of these sizes, numbered from k on
 abbrev pub numbered_bars : ℕ → ℕ → List ℕ → Reader (List ℕ)
@@ -117,6 +116,5 @@ made_from D p =
     }
 
 -- a whole report: a status line, and the parts
-abbrev pub report_reader : Desc → Reader (List ℕ × Made)
-report_reader D lines =
-    found_map (λ p. (p.0, made_from D p.1)) (in_turn (one_line (status_in D)) (parts_reader D) lines)
+abbrev pub whole_reader : Desc → Reader (List ℕ × Parts)
+whole_reader D = in_turn (one_line (status_in D)) (parts_reader D)

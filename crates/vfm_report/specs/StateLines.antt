@@ -1,7 +1,6 @@
 -- What the lines of a printed state say, each by its words.
-use Rattle.std.specs.Prelude.{ℕ, ◌&&◌, nat_lt, List, [], ◌∷◌, length, Option, Some, None, codes, decimal, if◌then◌else◌}
+use Rattle.std.specs.Prelude.{ℕ, nat_lt, List, [], ◌∷◌, Option, Some, None, codes, decimal, if◌then◌else◌}
 use Rattle.std.specs.Option.{option_map}
-use Rattle.vfm_types.specs.declared.desc.DevShape.{DevShape}
 use Rattle.vfm_report.specs.Maybe.{◌>>=◌}
 use Rattle.vfm_report.specs.Same.{same_text}
 use Rattle.vfm_report.specs.Counted.{one_word, two_words}

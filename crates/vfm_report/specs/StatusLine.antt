@@ -1,7 +1,6 @@
 -- The status lines that may begin a report: each that a run or a load can end with, its numbers in their ranges.
-use Rattle.std.specs.Prelude.{ℕ, ◌/◌, ◌%◌, ◌==◌, ◌&&◌, ◌||◌, Bool, true, false, nat_le, nat_lt, List, [], ◌∷◌, length, Option, Some, None, is_some, codes, if◌then◌else◌}
-use Rattle.std.specs.Option.{option_map}
-use Rattle.std.specs.List.{list_any, list_all}
+use Rattle.std.specs.Prelude.{ℕ, ◌/◌, ◌&&◌, ◌||◌, Bool, false, nat_le, nat_lt, List, [], ◌∷◌, length, Option, Some, None, is_some, codes, if◌then◌else◌}
+use Rattle.std.specs.List.{list_any}
 use Rattle.vfm_types.specs.declared.desc.Desc.{Desc}
 use Rattle.vfm_types.specs.Desc.{device_count, shape_at}
 use Rattle.vfm_report.specs.Same.{same_text}

@@ -1,5 +1,5 @@
 -- What is left of pieces between the places of a byte.
-use Rattle.std.specs.Prelude.{ℕ, List, [], ◌∷◌, Option, Some, None}
+use Rattle.std.specs.Prelude.{ℕ, List, [], Option, Some, None}
 use Rattle.std.specs.Borrow.{Bor}
 use Rattle.vfm_report.specs.declared.words.Words.{Words}
 use Rattle.vfm_report.specs.Split.{split}

@@ -78,12 +78,7 @@ fn read_buf(alloc: Global, lines: &mut Lines, d: DeviceId) -> Result<Vec<u8>, St
 }
 
 /// The only BAR of device `d`, which has this size.
-fn read_only_bar(
-    alloc: Global,
-    lines: &mut Lines,
-    d: DeviceId,
-    size: u32,
-) -> Result<Vec<u8>, Stop>
+fn read_only_bar(alloc: Global, lines: &mut Lines, d: DeviceId, size: u32) -> Result<Vec<u8>, Stop>
     ensures { Finds (λ v. v.items) result (lines_left lines.new) (one_line (only_bar_in d size) (lines_left lines.old)) }
 {
     let Some((line, after)) = lines.first() else {
@@ -134,12 +129,7 @@ fn read_several_bars(
 }
 
 /// The BARs of device `d`, which have these sizes: one has no number.
-fn read_bars(
-    alloc: Global,
-    lines: &mut Lines,
-    d: DeviceId,
-    sizes: &[u32],
-) -> Result<Vec<u8>, Stop>
+fn read_bars(alloc: Global, lines: &mut Lines, d: DeviceId, sizes: &[u32]) -> Result<Vec<u8>, Stop>
     requires { length sizes.now ≤ 6 }
     ensures { Finds (λ v. v.items) result (lines_left lines.new) (bars_reader d sizes.now (lines_left lines.old)) }
 {
@@ -151,11 +141,7 @@ fn read_bars(
 }
 
 /// The next line as a pending request of device `d`, and the lines after it, where it is one.
-fn next_pending<'a>(
-    lines: Lines<'a>,
-    desc: &Desc,
-    d: DeviceId,
-) -> Option<((u32, u32), Lines<'a>)>
+fn next_pending<'a>(lines: Lines<'a>, desc: &Desc, d: DeviceId) -> Option<((u32, u32), Lines<'a>)>
     requires { d < device_count desc.now }
     ensures found { MatchOption result (many_lines (pending_in desc.now d) (lines_left lines.entry) ≡ Read [] (lines_left lines.entry)) (λ p. many_lines (pending_in desc.now d) (lines_left lines.entry) ≡ found_map (λ xs. p.0 ∷ xs) (many_lines (pending_in desc.now d) (lines_left p.1))) }
     ensures fewer { MatchOption result (length (lines_left lines.entry) ≡ length (lines_left lines.entry)) (λ p. length (lines_left p.1) < length (lines_left lines.entry)) }

@@ -74,11 +74,7 @@ fn next_entry<'a>(lines: Lines<'a>, desc: &Desc) -> Option<(Entry, Lines<'a>)>
 }
 
 /// The entries of a journal.
-pub(crate) fn read_journal(
-    alloc: Global,
-    lines: &mut Lines,
-    desc: &Desc,
-) -> Result<Journal, Stop>
+pub(crate) fn read_journal(alloc: Global, lines: &mut Lines, desc: &Desc) -> Result<Journal, Stop>
     ensures { Finds (λ j. j.entries) result (lines_left lines.new) (journal_reader desc.now (lines_left lines.old)) }
 {
     let mut journal = Journal::with_room(alloc, 0)?;

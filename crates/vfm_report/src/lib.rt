@@ -5,6 +5,7 @@ mod device;
 mod digits;
 mod entry;
 mod journal;
+mod laws;
 mod lines;
 mod number;
 mod printed;
@@ -17,6 +18,9 @@ mod stop;
 mod words;
 
 pub use entry::read_entry;
+pub use laws::a_report_has_one_meaning;
+pub use printed::{PrintedDevice, PrintedState};
+pub use report::{Report, TextFault, read_report};
 
 #[cfg(test)]
 mod tests;

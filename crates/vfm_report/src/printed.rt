@@ -45,3 +45,51 @@ impl Model for PrintedState {
 
     ghost view = { λ p. record { pages = p.pages.items; devices = p.devices.items } };
 }
+
+impl PrintedDevice {
+    /// The bytes of its BARs, one after the other.
+    pub fn bar(&self) -> &[u8]
+        ensures { result.now ≡ self.now.bar }
+    {
+        self.bar.as_slice()
+    }
+
+    /// The buffer.
+    pub fn buf(&self) -> &[u8]
+        ensures { result.now ≡ self.now.buf }
+    {
+        self.buf.as_slice()
+    }
+
+    /// The pending requests in the order of their lines, each with its number and the number of its job.
+    pub fn pending(&self) -> &[(u32, u32)]
+        ensures { result.now ≡ self.now.pending }
+    {
+        self.pending.as_slice()
+    }
+
+    /// How many requests it accepted, did and lost.
+    pub fn counts(&self) -> (u32, u32, u32)
+        ensures accepted { result.0 ≡ self.now.accepted }
+        ensures done { result.1 ≡ self.now.done }
+        ensures lost { result.2 ≡ self.now.lost }
+    {
+        (self.accepted, self.done, self.lost)
+    }
+}
+
+impl PrintedState {
+    /// The pages.
+    pub fn pages(&self) -> &[Sheet]
+        ensures { result.now ≡ self.now.pages }
+    {
+        self.pages.as_slice()
+    }
+
+    /// The devices.
+    pub fn devices(&self) -> &[PrintedDevice]
+        ensures { result.now ≡ self.now.devices }
+    {
+        self.devices.as_slice()
+    }
+}

@@ -45,11 +45,7 @@ fn read_pages(alloc: Global, lines: &mut Lines, desc: &Desc) -> Result<Vec<Sheet
 }
 
 /// The devices.
-fn read_devices(
-    alloc: Global,
-    lines: &mut Lines,
-    desc: &Desc,
-) -> Result<Vec<PrintedDevice>, Stop>
+fn read_devices(alloc: Global, lines: &mut Lines, desc: &Desc) -> Result<Vec<PrintedDevice>, Stop>
     requires { device_count desc.now < 256 }
     ensures { Finds (λ v. v.items) result (lines_left lines.new) (row (device_reader desc.now) (device_count desc.now) 0 (lines_left lines.old)) }
 {

@@ -50,5 +50,9 @@ pub(crate) fn pending(words: Words, d: DeviceId, jobs: u32) -> Option<(u32, u32)
     let (number_word, job_word) = words.two()?;
     let request = number(number_word)?;
     let job = number(job_word)?;
-    if job < jobs { Some((request, job)) } else { None }
+    if job < jobs {
+        Some((request, job))
+    } else {
+        None
+    }
 }

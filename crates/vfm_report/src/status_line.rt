@@ -188,10 +188,7 @@ fn two_words(desc: &Desc, a: &[u8], b: &[u8]) -> bool
 fn has_member(b: &[u8]) -> bool
     ensures { result ≡ spec.is_one_of spec.member_faults b.now }
 {
-    is_word(b, b"missing")
-        || is_word(b, b"kind")
-        || is_word(b, b"range")
-        || is_word(b, b"not-yet")
+    is_word(b, b"missing") || is_word(b, b"kind") || is_word(b, b"range") || is_word(b, b"not-yet")
 }
 
 /// Whether it is one that has a device.

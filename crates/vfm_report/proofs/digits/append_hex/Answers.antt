@@ -1,10 +1,7 @@
 -- Two digits more are a byte more.
-use Rattle.std.proofs.Common.{◌≡◌, ℕ, ◌+◌, ◌*◌, ◌<◌, ◌≤◌, List, [], ◌∷◌, ◌++◌, length, drop, get_or, ap, sym, ◌∙◌, refl, append_assoc, append-nil, arith}
-use Rattle.std.proofs.lemmas.Bool.{and_parts, eqb-true}
+use Rattle.std.proofs.Common.{◌≡◌, ℕ, ◌+◌, ◌*◌, ◌<◌, List, [], ◌∷◌, ◌++◌, length, drop, get_or, ap, sym, ◌∙◌, refl, append_assoc, arith}
 use Rattle.std.proofs.lemmas.List.{drop_all}
-use Rattle.std.specs.Prelude.{◌==◌}
-use Rattle.std.specs.List.{list_all}
-use Rattle.vfm_report.specs.HexWord.{is_low_digit, low_digit, hex_value}
+use Rattle.vfm_report.specs.HexWord.{low_digit, hex_value}
 use Rattle.vfm_report.proofs.HexWords.{hex_value-more, is_hex-length, hex_value-nil}
 use Rattle.vfm_report.proofs.digits.append_hex.Goals as goal
 

@@ -1,5 +1,5 @@
 -- One of a row more, or a bad line.
-use Rattle.std.proofs.Common.{◌≡◌, ℕ, ◌+◌, ◌-◌, List, [], ◌∷◌, ◌++◌, ◌∙◌, ap, sym, arith}
+use Rattle.std.proofs.Common.{◌+◌, ◌-◌, List, ◌++◌, ◌∙◌, ap, sym, arith}
 use Rattle.std.proofs.lemmas.Result.{err_from_is_err_and}
 use Rattle.vfm_report.specs.LineList.{lines_left}
 use Rattle.vfm_types.specs.Desc.{device_count}
