@@ -25,4 +25,5 @@ written_dev offset bytes dev =
 -- the part with bytes put at a place in its BARs: where they are a doorbell, it is rung
 abbrev pub put_dev : DevShape → Place → List ℕ → Dev → Dev
 put_dev shape place bytes dev =
-    if is_bell place (length bytes) then rung_dev shape (from_le_bytes w64 bytes) dev else written_dev place.offset bytes dev
+    if is_bell place (length bytes) then rung_dev shape (from_le_bytes w64 bytes) dev
+    else written_dev place.offset bytes dev

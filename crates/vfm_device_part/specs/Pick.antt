@@ -11,12 +11,14 @@ use Rattle.vfm_parts_laws.specs.LooksIn.{issue_barred_in, unissued_in}
 -- a completion for each of these requests of device d that was delivered, in the order of their issue
 abbrev pub completions : ℕ → List Outstanding → List Entry
 completions d [] = []
-completions d (r ∷ requests) = if r.is_delivered then Complete d r.number ∷ completions d requests else completions d requests
+completions d (r ∷ requests) =
+    if r.is_delivered then Complete d r.number ∷ completions d requests else completions d requests
 
 -- a delivery for each of them that waits for it, in the order of their issue
 abbrev pub deliveries : ℕ → List Outstanding → List Entry
 deliveries d [] = []
-deliveries d (r ∷ requests) = if r.is_delivered then deliveries d requests else Deliver d r.number ∷ deliveries d requests
+deliveries d (r ∷ requests) =
+    if r.is_delivered then deliveries d requests else Deliver d r.number ∷ deliveries d requests
 
 -- the issue of the next request, if no rule bars it
 abbrev pub issue_if_allowed : Desc → ℕ → Dev → List Entry

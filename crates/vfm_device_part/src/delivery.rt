@@ -103,7 +103,9 @@ impl DevPart {
     // puts at most 64 bytes at the front of the buffer
     fn set_front(&mut self, bytes: &[u8])
         requires { length bytes.now ≤ length self.old.plain.buf }
-        ensures { self.new ≡ record self.old { plain = record self.old.plain { buf = splice self.old.plain.buf 0 bytes.now } } }
+        ensures { self.new ≡ record self.old {
+          plain = record self.old.plain { buf = splice self.old.plain.buf 0 bytes.now };
+        } }
     {
         self.engine.set_front(bytes);
     }
@@ -111,7 +113,10 @@ impl DevPart {
     // takes request n from the pending ones, counts it as done, and notes that it was delivered
     fn count_delivered(&mut self, n: u32)
         requires { is_listed n self.old.plain.pending ≡ true }
-        ensures { self.new ≡ record self.old { plain = taken self.old.plain n; requests = deliver_if true n self.old.requests } }
+        ensures { self.new ≡ record self.old {
+          plain = taken self.old.plain n;
+          requests = deliver_if true n self.old.requests;
+        } }
     {
         self.engine.deliver(n);
     }

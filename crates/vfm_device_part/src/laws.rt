@@ -36,13 +36,16 @@ pub fn picks_are_allowed_steps()
     ensures each { (D : Desc) (d : ℕ) (dev : Dev) (entry : Entry) → DevFits D d dev → is_step_of d entry ≡ true
         → own_fault D entry dev ≡ None → (pick : ℕ) × (picked (enabled_steps D d dev) pick ≡ Some entry) }
     ensures none { (D : Desc) (d pick : ℕ) (dev : Dev) → DevFits D d dev
-        → (picked (enabled_steps D d dev) pick ≡ None) ↔ ((entry : Entry) → is_step_of d entry ≡ true → own_fault D entry dev ≢ None) }
+        → (picked (enabled_steps D d dev) pick ≡ None)
+        ↔ ((entry : Entry) → is_step_of d entry ≡ true → own_fault D entry dev ≢ None) }
 {}
 
 /// A delivery is aimed where its target is; where there is none, it breaks Turn.
 pub fn targets_are_aims()
-    ensures aimed { (D : Desc) (d n : ℕ) (dev : Dev) (region : Region) → target_in D d n dev ≡ Some region → IsAimed D (Deliver d n) dev region }
-    ensures none { (D : Desc) (d n : ℕ) (dev : Dev) → target_in D d n dev ≡ None → own_fault D (Deliver d n) dev ≡ Some Turn }
+    ensures aimed { (D : Desc) (d n : ℕ) (dev : Dev) (region : Region)
+        → target_in D d n dev ≡ Some region → IsAimed D (Deliver d n) dev region }
+    ensures none { (D : Desc) (d n : ℕ) (dev : Dev)
+        → target_in D d n dev ≡ None → own_fault D (Deliver d n) dev ≡ Some Turn }
 {}
 
 /// A step of a device is the entry over all parts: it breaks the same rule; an Issue and a Complete change the device's own
@@ -50,22 +53,30 @@ pub fn targets_are_aims()
 pub fn device_steps_are_entries()
     ensures fault { (D : Desc) (parts : Parts) (d : ℕ) (entry : Entry) → is_step_of d entry ≡ true
         → fault_in D parts entry ≡ own_fault D entry (parts.dev d) }
-    ensures lead { (D : Desc) (parts : Parts) (d : ℕ) (entry : Entry) → is_step_of d entry ≡ true → lead_after D parts entry ≡ parts.lead }
+    ensures lead { (D : Desc) (parts : Parts) (d : ℕ) (entry : Entry) → is_step_of d entry ≡ true
+        → lead_after D parts entry ≡ parts.lead }
     ensures own { (D : Desc) (parts : Parts) (d : ℕ) (entry : Entry) → is_own_of d entry ≡ true → (k : ℕ)
         → dev_after D parts entry k ≡ with_dev d (own_after D entry (parts.dev d)) parts.dev k }
     ensures own_pages { (D : Desc) (parts : Parts) (d : ℕ) (entry : Entry) → is_own_of d entry ≡ true → (q : ℕ)
         → page_after D parts entry q ≡ parts.page q }
-    ensures to_device { (D : Desc) (parts : Parts) (d n t : ℕ) → region_of_job D (job_in D d n (parts.dev d)) ≡ Bar t → (k : ℕ)
+    ensures to_device { (D : Desc) (parts : Parts) (d n t : ℕ)
+        → region_of_job D (job_in D d n (parts.dev d)) ≡ Bar t → (k : ℕ)
         → dev_after D parts (Deliver d n) k
         ≡ with_dev d (issuer_after D (Deliver d n) (parts.dev t).plain.bar (parts.dev d))
-        (with_dev t (struck_dev D t (delivered_job D (Deliver d n) (parts.dev d)) (parts.dev d).plain.buf (parts.dev t)) parts.dev) k }
-    ensures no_page { (D : Desc) (parts : Parts) (d n t : ℕ) → region_of_job D (job_in D d n (parts.dev d)) ≡ Bar t → (q : ℕ)
+        (with_dev t (struck_dev D t (delivered_job D (Deliver d n) (parts.dev d)) (parts.dev d).plain.buf (parts.dev t))
+        parts.dev) k }
+    ensures no_page { (D : Desc) (parts : Parts) (d n t : ℕ)
+        → region_of_job D (job_in D d n (parts.dev d)) ≡ Bar t → (q : ℕ)
         → page_after D parts (Deliver d n) q ≡ parts.page q }
-    ensures to_page { (D : Desc) (parts : Parts) (d n p : ℕ) → region_of_job D (job_in D d n (parts.dev d)) ≡ Page p → (q : ℕ)
+    ensures to_page { (D : Desc) (parts : Parts) (d n p : ℕ)
+        → region_of_job D (job_in D d n (parts.dev d)) ≡ Page p → (q : ℕ)
         → page_after D parts (Deliver d n) q
-        ≡ with_page p (page_after_job D (delivered_job D (Deliver d n) (parts.dev d)) (parts.dev d).plain.buf (parts.page p)) parts.page q }
-    ensures no_device { (D : Desc) (parts : Parts) (d n p : ℕ) → region_of_job D (job_in D d n (parts.dev d)) ≡ Page p → (k : ℕ)
-        → dev_after D parts (Deliver d n) k ≡ with_dev d (issuer_after D (Deliver d n) (parts.page p) (parts.dev d)) parts.dev k }
+        ≡ with_page p (page_after_job D (delivered_job D (Deliver d n) (parts.dev d)) (parts.dev d).plain.buf (parts.page p))
+        parts.page q }
+    ensures no_device { (D : Desc) (parts : Parts) (d n p : ℕ)
+        → region_of_job D (job_in D d n (parts.dev d)) ≡ Page p → (k : ℕ)
+        → dev_after D parts (Deliver d n) k
+        ≡ with_dev d (issuer_after D (Deliver d n) (parts.page p) (parts.dev d)) parts.dev k }
 {}
 
 /// A part fits its device as described, and still does after each step of the move on it.

@@ -123,7 +123,10 @@ impl DevPart {
     // takes request n off the bus and counts it as completed
     fn count_completed(&mut self, n: u32)
         requires { self.old.completes < 4294967295 }
-        ensures { self.new ≡ record self.old { requests = complete_if true n self.old.requests; completes = self.old.completes + 1 } }
+        ensures { self.new ≡ record self.old {
+          requests = complete_if true n self.old.requests;
+          completes = self.old.completes + 1;
+        } }
     {
         self.engine.complete(n);
     }

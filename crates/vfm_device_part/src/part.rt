@@ -154,7 +154,8 @@ impl DevPart {
           unread = pages_where (λ c. contains_page self.old.unread c && not (c == b));
           dirty = pages_where (λ c. contains_page self.old.dirty c && not (c == b));
         } }
-        ensures read { (D : Desc) (d : ℕ) → IsValid D → d < device_count D → DevFits D d self.old → self.new ≡ read_dev D d b self.old }
+        ensures read { (D : Desc) (d : ℕ) → IsValid D → d < device_count D → DevFits D d self.old
+            → self.new ≡ read_dev D d b self.old }
     {
         self.bar.unmark(b);
     }

@@ -26,7 +26,8 @@ pub fn step_own(desc: &Desc, d: DeviceId, own: &mut DevPart, e: Entry) -> Result
     requires device { d < device_count desc.now }
     requires fits { DevFits desc.now d own.old }
     requires entry { is_own_of d e ≡ true }
-    ensures guard { MatchResult result (λ _. own_fault desc.now e own.old ≡ None) (λ guard. own_fault desc.now e own.old ≡ Some guard.0) }
+    ensures guard { MatchResult result (λ _. own_fault desc.now e own.old ≡ None)
+        (λ guard. own_fault desc.now e own.old ≡ Some guard.0) }
     ensures done { OnOk result (own.new ≡ own_after desc.now e own.old) }
     ensures same { OnErr result (own.new ≡ own.old) }
     ensures fits { DevFits desc.now d own.new }
@@ -56,9 +57,11 @@ pub fn step_to_device(
     requires target_fits { DevFits desc.now t target.old }
     requires entry { is_delivery_of d e ≡ true }
     requires aimed { IsAimed desc.now e own.old (Bar t) }
-    ensures guard { MatchResult result (λ _. own_fault desc.now e own.old ≡ None) (λ guard. own_fault desc.now e own.old ≡ Some guard.0) }
+    ensures guard { MatchResult result (λ _. own_fault desc.now e own.old ≡ None)
+        (λ guard. own_fault desc.now e own.old ≡ Some guard.0) }
     ensures own { OnOk result (own.new ≡ issuer_after desc.now e target.old.plain.bar own.old) }
-    ensures target { OnOk result (target.new ≡ struck_dev desc.now t (delivered_job desc.now e own.old) own.old.plain.buf target.old) }
+    ensures target { OnOk result
+        (target.new ≡ struck_dev desc.now t (delivered_job desc.now e own.old) own.old.plain.buf target.old) }
     ensures same { OnErr result ((own.new ≡ own.old) × (target.new ≡ target.old)) }
     ensures fits { DevFits desc.now d own.new }
     ensures target_fits { DevFits desc.now t target.new }
@@ -86,9 +89,11 @@ pub fn step_to_page(
     requires page_fits { PageFits desc.now page.old }
     requires entry { is_delivery_of d e ≡ true }
     requires aimed { IsAimed desc.now e own.old (Page p) }
-    ensures guard { MatchResult result (λ _. own_fault desc.now e own.old ≡ None) (λ guard. own_fault desc.now e own.old ≡ Some guard.0) }
+    ensures guard { MatchResult result (λ _. own_fault desc.now e own.old ≡ None)
+        (λ guard. own_fault desc.now e own.old ≡ Some guard.0) }
     ensures own { OnOk result (own.new ≡ issuer_after desc.now e page.old own.old) }
-    ensures page { OnOk result (page.new ≡ page_after_job desc.now (delivered_job desc.now e own.old) own.old.plain.buf page.old) }
+    ensures page { OnOk result
+        (page.new ≡ page_after_job desc.now (delivered_job desc.now e own.old) own.old.plain.buf page.old) }
     ensures same { OnErr result ((own.new ≡ own.old) × (page.new ≡ page.old)) }
     ensures fits { DevFits desc.now d own.new }
     ensures page_fits { PageFits desc.now page.new }
@@ -113,11 +118,13 @@ fn deliver_to_device(
     requires fits { DevFits desc.now d own.old }
     requires target { t < device_count desc.now }
     requires target_fits { DevFits desc.now t target.old }
-    requires aimed { is_undelivered n own.old.requests ≡ true → region_of_job desc.now (job_in desc.now d n own.old) ≡ Bar t }
+    requires aimed { is_undelivered n own.old.requests ≡ true
+        → region_of_job desc.now (job_in desc.now d n own.old) ≡ Bar t }
     ensures guard { MatchResult result (λ _. is_undelivered n own.old.requests ≡ true)
         (λ rule. (is_undelivered n own.old.requests ≡ false) × (rule ≡ Turn)) }
     ensures own { OnOk result (own.new ≡ delivered_dev desc.now d n target.old.plain.bar own.old) }
-    ensures target { OnOk result (target.new ≡ struck_dev desc.now t (job_in desc.now d n own.old) own.old.plain.buf target.old) }
+    ensures target { OnOk result
+        (target.new ≡ struck_dev desc.now t (job_in desc.now d n own.old) own.old.plain.buf target.old) }
     ensures same { OnErr result ((own.new ≡ own.old) × (target.new ≡ target.old)) }
     ensures fits { DevFits desc.now d own.new }
     ensures target_fits { DevFits desc.now t target.new }
@@ -144,11 +151,13 @@ fn deliver_to_page(
     requires device { d < device_count desc.now }
     requires fits { DevFits desc.now d own.old }
     requires page_fits { PageFits desc.now page.old }
-    requires aimed { is_undelivered n own.old.requests ≡ true → region_of_job desc.now (job_in desc.now d n own.old) ≡ Page p }
+    requires aimed { is_undelivered n own.old.requests ≡ true
+        → region_of_job desc.now (job_in desc.now d n own.old) ≡ Page p }
     ensures guard { MatchResult result (λ _. is_undelivered n own.old.requests ≡ true)
         (λ rule. (is_undelivered n own.old.requests ≡ false) × (rule ≡ Turn)) }
     ensures own { OnOk result (own.new ≡ delivered_dev desc.now d n page.old own.old) }
-    ensures page { OnOk result (page.new ≡ page_after_job desc.now (job_in desc.now d n own.old) own.old.plain.buf page.old) }
+    ensures page { OnOk result
+        (page.new ≡ page_after_job desc.now (job_in desc.now d n own.old) own.old.plain.buf page.old) }
     ensures same { OnErr result ((own.new ≡ own.old) × (page.new ≡ page.old)) }
     ensures fits { DevFits desc.now d own.new }
     ensures page_fits { PageFits desc.now page.new }
