@@ -7,6 +7,7 @@ use crate::Core;
 use std::alloc::Global;
 use std::process::Abort;
 use std::test::Fail;
+use vfm_plain::Plain;
 use vfm_quiet::{Want, next};
 use vfm_types::{
     Bars, Bytes64, Desc, DevShape, DeviceId, Entry, Flags, Job, Jobs, MigState, Name, Queue, Rule,
@@ -360,5 +361,30 @@ fn an_early_end_and_the_way_home(rt: HostRuntime) -> Result<(), Fail> {
         (Entry::Complete { d: A, n: 0 }, Some(Rule::Turn)),
     ];
     assert!(rt; comes_so(&mut core, &steps));
+    Ok(())
+}
+
+#[test]
+fn a_delivery_makes_another_machine(rt: HostRuntime) -> Result<(), Fail> {
+    let alloc = rt.alloc();
+    let limits = Limits {
+        pages: 2,
+        begin: 1,
+        rounds: 0,
+    };
+    let mut core = writer(&rt, alloc, 7, 18, limits)?;
+    let other = writer(&rt, alloc, 7, 18, limits)?;
+    let before = [(Entry::Issue { d: A, n: 0 }, None)];
+    assert!(rt; comes_so(&mut core, &before));
+    assert!(rt; core.same(&other) && other.same(&core));
+    let steps = [(Entry::Deliver { d: A, n: 0 }, None)];
+    assert!(rt; comes_so(&mut core, &steps));
+    assert!(rt; !core.same(&other));
+    let mut plain = Plain::of(alloc, core.desc())?;
+    let mut described = Plain::of(alloc, other.desc())?;
+    other.copy_into(&mut described);
+    assert!(rt; plain.same(&described));
+    core.copy_into(&mut plain);
+    assert!(rt; !plain.same(&described));
     Ok(())
 }

@@ -4,7 +4,6 @@ use Rattle.std.proofs.lemmas.List.{get_or_default}
 use Rattle.vfm_parts.specs.Parts.{Dev, no_dev}
 use Rattle.vfm_parts.specs.Fits.{DevFits}
 use Rattle.vfm_parts.specs.BlockStep.{read_dev}
-use Rattle.vfm_lead.specs.LeadSteps.{dev_of_list}
 use Rattle.vfm_lead.proofs.changes.read_block.Goals as goal
 
 pub returns : goal.returns
