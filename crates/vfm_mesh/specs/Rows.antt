@@ -1,5 +1,5 @@
 -- Fans and funnels, stream by stream and channel by channel.
-use Rattle.std.specs.Prelude.{◌≡◌, ℕ, List, [], ◌∷◌, ◌++◌, length, map, take, drop, slice_index_or}
+use Rattle.std.specs.Prelude.{◌≡◌, ℕ, ◌<◌, List, [], ◌∷◌, ◌++◌, length, map, take, drop, slice_index_or}
 use Rattle.rtrb.specs.Ring.{received, known_items}
 use Rattle.vfm_mesh.specs.declared.parcel.Parcel.{Parcel}
 use Rattle.vfm_mesh.specs.declared.parcel.Parcel.TheVariants.{Close}
@@ -34,6 +34,12 @@ all_free fan = map feed_free fan.feeds.items
 -- how many slots of a stream's ring the fan knows to be free
 abbrev pub free_slots : Fan → ℕ → ℕ
 free_slots fan s = slice_index_or (all_free fan) s 0
+
+-- a ring of which no slot is known to be free
+pub record HasFullRing (fan : Fan) : Type 0 where
+  pub stream : ℕ
+  pub inside : stream < stream_count fan
+  pub full : free_slots fan stream ≡ 0
 
 -- the rings of a fan, one a stream
 abbrev pub fan_rings : Fan → List RingId

@@ -15,7 +15,7 @@ impl Fan {
     ghost use Rattle.std.specs.Prelude.{◌≡◌, ◌+◌, ◌<◌, ◌≤◌, ℕ, ◌∷◌, [], ◌++◌, length, map, slice_set, slice_index_or, ◌==◌, if◌then◌else◌, IsOk, IsErr, IfOk, IfErr, IfSome, IfNone, OnOk, OnErr};
     ghost use Rattle.vfm_mesh.specs.declared.feed.Feed.{Feed};
     ghost use Rattle.vfm_mesh.specs.Feeds.{feed_given, feed_kept, feed_free, feed_ring, RingId};
-    ghost use Rattle.vfm_mesh.specs.Rows.{stream_count, all_given, given, all_kept, kept, all_free, free_slots, fan_rings, closed, ClosedInPart, channel_count, all_taken, taken, all_known, known, funnel_rings};
+    ghost use Rattle.vfm_mesh.specs.Rows.{stream_count, all_given, given, all_kept, kept, all_free, free_slots, fan_rings, closed, ClosedInPart, HasFullRing, channel_count, all_taken, taken, all_known, known, funnel_rings};
 
     /// Gives a parcel of a stream. It goes into the ring of the stream, or to the end of what the fan keeps, so that the
     /// stream's loader gets all parcels of this channel in order. It is kept, which may take memory, only where no slot of
@@ -56,11 +56,12 @@ impl Fan {
         self.feeds[stream].offer(parcel)
     }
 
-    /// Gives the mark that nothing more comes to every stream, in rising order. When memory runs out, the first of them
-    /// have got it and the others haven't.
+    /// Gives the mark that nothing more comes to every stream, in rising order. When memory runs out, which needs a ring that is
+    /// full, the first of them have got it and the others haven't.
     pub fn close(&mut self) -> Result<(), NoMemory>
         ensures closed { OnOk result (all_given self.new ≡ map closed (all_given self.old)) }
         ensures in_part { OnErr result (ClosedInPart (all_given self.old) (all_given self.new)) }
+        ensures memory { OnErr result (HasFullRing self.new) }
         ensures rings { fan_rings self.new ≡ fan_rings self.old }
         ensures streams { stream_count self.new ≡ stream_count self.old }
     {
