@@ -1,9 +1,9 @@
 -- A whole report is read exactly, and its first bad line found.
-use Rattle.std.proofs.Common.{◌≡◌, ℕ, zero, suc, ◌+◌, ◌-◌, ◌≤◌, ◌^◌, List, [], ◌∷◌, ◌++◌, length, take, Some, None, true, false, refl, ap, sym, subst, ◌∙◌, arith, append_assoc, append-nil, length-append, inl, inr}
+use Rattle.std.proofs.Common.{◌≡◌, ℕ, zero, suc, ◌+◌, ◌-◌, ◌≤◌, ◌^◌, List, [], ◌∷◌, ◌++◌, length, take, Some, None, true, false, refl, ap, sym, subst, ◌∙◌, arith, append_assoc, append-nil, length-append, inl, inr, drop, ◌<◌}
 use Rattle.std.specs.Prelude.{◌⊎◌, codes}
 use Rattle.std.specs.Prelude.{◌==◌, not, ◌&&◌, nat_le}
 use Rattle.std.specs.List.{list_all}
-use Rattle.std.proofs.lemmas.List.{get_or_past}
+use Rattle.std.proofs.lemmas.List.{get_or_past, take-append-drop}
 use Rattle.vfm_types.specs.Bytes.{is_name_byte}
 use Rattle.vfm_types.specs.declared.desc.DevShape.{DevShape}
 use Rattle.vfm_types.specs.Desc.{device_count, shape_at, no_shape}
@@ -309,3 +309,38 @@ pub bad-few : (D : Desc) → IsValid D → (bytes : List ℕ) (rest : Lines) →
 bad-few D valid bytes rest h =
     let b = (whole-exact D (clear D valid)).bad (whole_lines bytes) rest (found-bad (whole_reader D (whole_lines bytes)) rest h) in
     omega (arith, ap length b.1 ∙ length-append b.0 rest)
+
+-- ---- one bad line
+
+take-twice : (j m : ℕ) (lines : Lines) → j ≤ m → take j (take m lines) ≡ take j lines
+take-twice zero m lines h = refl
+take-twice (suc j) zero lines h = absurd (omega arith)
+take-twice (suc j) (suc m) [] h = refl
+take-twice (suc j) (suc m) (l ∷ lines) h = ap (λ (r : Lines). l ∷ r) (take-twice j m lines (omega arith))
+
+fewer-begin : (D : Desc) (bytes : List ℕ) (j m : ℕ) → j ≤ m → BeginsReport D (first_lines m bytes) → BeginsReport D (first_lines j bytes)
+fewer-begin D bytes j m less b =
+    let L = whole_lines bytes in
+    let more = drop j (take m L) in
+    let lines : take m L ≡ take j L ++ more = sym (take-append-drop j (take m L)) ∙ ap (λ (r : Lines). r ++ more) (take-twice j m L less) in
+    let text : unlined (take m L) ++ b.0 ≡ unlined (take j L) ++ (unlined more ++ b.0) =
+    ap (λ (r : List ℕ). r ++ b.0) (ap unlined lines ∙ unlined-append (take j L) more) ∙ append_assoc (unlined (take j L)) (unlined more) b.0 in
+    (unlined more ++ b.0, b.1, subst (λ (t : List ℕ). IsReport D t b.1) text b.2)
+
+not-earlier : (D : Desc) (bytes : List ℕ) (j k : ℕ) → IsBadLine D bytes j → IsBadLine D bytes k → j < k → ⊥
+not-earlier D bytes j k one other less =
+    elim one.bad [
+      | inl last ↦ omega (arith, last, other.within, less)
+      | inr no_report ↦ no_report (fewer-begin D bytes j (k - 1) (omega (arith, less)) other.begins)
+    ]
+
+pub one-bad-line : (D : Desc) (bytes : List ℕ) (j k : ℕ) → IsBadLine D bytes j → IsBadLine D bytes k → j ≡ k
+one-bad-line D bytes j k one other =
+    elim (cases_lt j k) [
+      | inl less ↦ absurd (not-earlier D bytes j k one other less)
+      | inr not_less ↦
+          elim (cases_lt k j) [
+            | inl more ↦ absurd (not-earlier D bytes k j other one more)
+            | inr not_more ↦ omega (arith, not_less, not_more)
+          ]
+    ]

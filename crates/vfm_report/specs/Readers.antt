@@ -81,10 +81,15 @@ device_reader D d lines =
 abbrev pub machine_from : List (List ℕ) × List DeviceState → Machine
 machine_from p = record { pages = p.0; devices = p.1 }
 
+-- the pages, and the devices
+abbrev pub pages_reader : Desc → Reader (List (List ℕ))
+pages_reader D = row (λ p. one_line (page_in D p)) D.pages 0
+
+abbrev pub devices_reader : Desc → Reader (List DeviceState)
+devices_reader D = row (device_reader D) (device_count D) 0
+
 abbrev pub state_reader : Desc → Reader Machine
-state_reader D lines =
-    found_map machine_from
-    (in_turn (row (λ p. one_line (page_in D p)) D.pages 0) (row (device_reader D) (device_count D) 0) lines)
+state_reader D lines = found_map machine_from (in_turn (pages_reader D) (devices_reader D) lines)
 
 abbrev pub journal_reader : Desc → Reader (List Entry)
 journal_reader D lines = many_lines (entry_in D) lines

@@ -1,12 +1,12 @@
 //! Reading the lines of a printed device.
 
-ghost use Rattle.std.specs.Prelude.{◌≡◌, ◌++◌, ◌<◌, ◌≤◌, ◌∷◌, [], length, MatchOption};
+ghost use Rattle.std.specs.Prelude.{◌≡◌, ◌++◌, ◌<◌, ◌≤◌, ◌∷◌, [], length, MatchOption, IfSome, IfNone};
 ghost use Rattle.std.specs.Option.{option_map, option_copied};
 ghost use Rattle.vfm_types.specs.Desc.{device_count, shape_at};
 ghost use Rattle.vfm_types.specs.Valid.{IsValid};
 ghost use Rattle.vfm_report.specs.LineList.{lines_left};
 ghost use Rattle.vfm_report.specs.Found.{Read, found_map, one_line, many_lines};
-ghost use Rattle.vfm_report.specs.Finding.{Finds, Gets};
+ghost use Rattle.vfm_report.specs.Finding.{Finds, Gets, Ends, Begins, Fewer};
 ghost use Rattle.vfm_report.specs.Readers.{bytes_if, buf_in, only_bar_in, bar_in, counts_in, pending_in, numbered_bars, bars_reader, device_reader};
 
 use crate::digits::{append_hex, is_hex};
@@ -143,8 +143,9 @@ fn read_bars(alloc: Global, lines: &mut Lines, d: DeviceId, sizes: &[u32]) -> Re
 /// The next line as a pending request of device `d`, and the lines after it, where it is one.
 fn next_pending<'a>(lines: Lines<'a>, desc: &Desc, d: DeviceId) -> Option<((u32, u32), Lines<'a>)>
     requires { d < device_count desc.now }
-    ensures found { MatchOption result (many_lines (pending_in desc.now d) (lines_left lines.entry) ≡ Read [] (lines_left lines.entry)) (λ p. many_lines (pending_in desc.now d) (lines_left lines.entry) ≡ found_map (λ xs. p.0 ∷ xs) (many_lines (pending_in desc.now d) (lines_left p.1))) }
-    ensures fewer { MatchOption result (length (lines_left lines.entry) ≡ length (lines_left lines.entry)) (λ p. length (lines_left p.1) < length (lines_left lines.entry)) }
+    ensures none { IfNone result (Ends (pending_in desc.now d) (lines_left lines.entry)) }
+    ensures some { IfSome result (λ p. Begins (pending_in desc.now d) (lines_left lines.entry) p.0 (lines_left p.1)) }
+    ensures fewer { Fewer result (lines_left lines.entry) (λ p. lines_left p.1) }
 {
     let (line, after) = lines.first()?;
     let jobs = desc.devices.at(u32::from(d.0)).jobs.len();

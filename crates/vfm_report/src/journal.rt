@@ -1,12 +1,12 @@
 //! Reading a printed journal.
 
-ghost use Rattle.std.specs.Prelude.{◌≡◌, ◌∷◌, ◌<◌, [], MatchOption, length, nat_lt, ◌&&◌};
+ghost use Rattle.std.specs.Prelude.{◌≡◌, ◌∷◌, ◌<◌, [], MatchOption, length, nat_lt, ◌&&◌, IfSome, IfNone};
 ghost use Rattle.std.specs.Option.{option_map};
 ghost use Rattle.vfm_types.specs.Desc.{device_count, shape_at, block_count};
 ghost use Rattle.vfm_plain.specs.Legal as legal;
 ghost use Rattle.vfm_report.specs.LineList.{lines_left};
 ghost use Rattle.vfm_report.specs.Found.{Read, found_map, many_lines, this_line, titled};
-ghost use Rattle.vfm_report.specs.Finding.{Finds};
+ghost use Rattle.vfm_report.specs.Finding.{Finds, Ends, Begins, Fewer};
 ghost use Rattle.vfm_report.specs.Readers.{journal_reader};
 ghost use Rattle.vfm_report.specs.Readers as spec;
 
@@ -65,8 +65,9 @@ fn entry_in(desc: &Desc, line: &[u8]) -> Option<Entry>
 
 /// The next line as an entry, and the lines after it, where it is one.
 fn next_entry<'a>(lines: Lines<'a>, desc: &Desc) -> Option<(Entry, Lines<'a>)>
-    ensures found { MatchOption result (many_lines (spec.entry_in desc.now) (lines_left lines.entry) ≡ Read [] (lines_left lines.entry)) (λ p. many_lines (spec.entry_in desc.now) (lines_left lines.entry) ≡ found_map (λ xs. p.0 ∷ xs) (many_lines (spec.entry_in desc.now) (lines_left p.1))) }
-    ensures fewer { MatchOption result (length (lines_left lines.entry) ≡ length (lines_left lines.entry)) (λ p. length (lines_left p.1) < length (lines_left lines.entry)) }
+    ensures none { IfNone result (Ends (spec.entry_in desc.now) (lines_left lines.entry)) }
+    ensures some { IfSome result (λ p. Begins (spec.entry_in desc.now) (lines_left lines.entry) p.0 (lines_left p.1)) }
+    ensures fewer { Fewer result (lines_left lines.entry) (λ p. lines_left p.1) }
 {
     let (line, after) = lines.first()?;
     let entry = entry_in(desc, line)?;

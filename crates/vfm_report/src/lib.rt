@@ -18,7 +18,7 @@ mod stop;
 mod words;
 
 pub use entry::read_entry;
-pub use laws::a_report_has_one_meaning;
+pub use laws::{a_report_has_one_meaning, a_text_has_one_bad_line};
 pub use printed::{PrintedDevice, PrintedState};
 pub use report::{Report, TextFault, read_report};
 

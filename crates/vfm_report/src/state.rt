@@ -4,9 +4,9 @@ ghost use Rattle.std.specs.Prelude.{◌≡◌, ◌<◌, codes};
 ghost use Rattle.vfm_types.specs.Desc.{device_count};
 ghost use Rattle.vfm_types.specs.Valid.{IsValid};
 ghost use Rattle.vfm_report.specs.LineList.{lines_left};
-ghost use Rattle.vfm_report.specs.Found.{one_line, row, titled};
+ghost use Rattle.vfm_report.specs.Found.{one_line, titled};
 ghost use Rattle.vfm_report.specs.Finding.{Finds};
-ghost use Rattle.vfm_report.specs.Readers.{page_in, device_reader, state_reader};
+ghost use Rattle.vfm_report.specs.Readers.{page_in, pages_reader, devices_reader, state_reader};
 
 use crate::device::{bytes_of, read_device};
 use crate::lines::Lines;
@@ -32,7 +32,7 @@ fn read_page(alloc: Global, lines: &mut Lines, desc: &Desc, p: u32) -> Result<Sh
 
 /// The pages.
 fn read_pages(alloc: Global, lines: &mut Lines, desc: &Desc) -> Result<Vec<Sheet>, Stop>
-    ensures { Finds (λ v. v.items) result (lines_left lines.new) (row (λ p. one_line (page_in desc.now p)) desc.now.pages 0 (lines_left lines.old)) }
+    ensures { Finds (λ v. v.items) result (lines_left lines.new) (pages_reader desc.now (lines_left lines.old)) }
 {
     let mut pages = Vec::new(alloc);
     for p in 0..desc.pages {
@@ -47,7 +47,7 @@ fn read_pages(alloc: Global, lines: &mut Lines, desc: &Desc) -> Result<Vec<Sheet
 /// The devices.
 fn read_devices(alloc: Global, lines: &mut Lines, desc: &Desc) -> Result<Vec<PrintedDevice>, Stop>
     requires { device_count desc.now < 256 }
-    ensures { Finds (λ v. v.items) result (lines_left lines.new) (row (device_reader desc.now) (device_count desc.now) 0 (lines_left lines.old)) }
+    ensures { Finds (λ v. v.items) result (lines_left lines.new) (devices_reader desc.now (lines_left lines.old)) }
 {
     let mut devices = Vec::new(alloc);
     for d in 0..desc.devices.len() as u8 {
