@@ -1,0 +1,40 @@
+use Rattle.std.proofs.Common.{◌∙◌, refl, slice_index_or}
+use Rattle.std.proofs.Math.Seq.{map-set_same}
+use Rattle.vfm_send.specs.Sends.{given, has_failed, link_of}
+use Rattle.vfm_outlets.proofs.Given.{flag_of, ok_of}
+use Rattle.vfm_outlets.proofs.channels.send_one.Goals as goal
+
+pub returns-clause-given : goal.returns-clause-given
+returns-clause-given g c =
+    map-set_same (given g.L.Link.sent) c.args.senders.now c.args.k c.send_all.new.self c.index-senders-k.result c.send_all.ensures.given
+
+pub returns-clause-received : goal.returns-clause-received
+returns-clause-received g c =
+    map-set_same (λ s. g.L.Link.received (link_of s)) c.args.senders.now c.args.k c.send_all.new.self c.index-senders-k.result
+    c.send_all.ensures.received
+
+pub returns-clause-finished : goal.returns-clause-finished
+returns-clause-finished g c =
+    map-set_same (λ s. g.L.Link.finished (link_of s)) c.args.senders.now c.args.k c.send_all.new.self c.index-senders-k.result
+    c.send_all.ensures.finished
+
+pub returns-clause-ended : goal.returns-clause-ended
+returns-clause-ended g c =
+    map-set_same (λ s. g.L.Link.ended (link_of s)) c.args.senders.now c.args.k c.send_all.new.self c.index-senders-k.result
+    c.send_all.ensures.ended
+
+pub returns-clause-failed_in : goal.returns-clause-failed_in
+returns-clause-failed_in g c =
+    map-set_same (λ s. g.L.Link.failed_in (link_of s)) c.args.senders.now c.args.k c.send_all.new.self c.index-senders-k.result
+    c.send_all.ensures.failed_in
+
+pub returns-clause-sent : goal.returns-clause-sent
+returns-clause-sent g c = record {
+  sender = c.send_all.new.self;
+  place = refl;
+  flag =
+      c.is_err.ensures.value
+      ∙ flag_of (has_failed (slice_index_or c.args.senders.now c.args.k c.index-senders-k.result)) (has_failed c.send_all.new.self)
+      c.send_all.result c.send_all.ensures.failed (λ failed. (c.send_all.ensures.silent failed).0);
+  all = ok_of c.is_err.result c.send_all.result _ c.is_err.ensures.value c.send_all.ensures.all;
+}
