@@ -19,34 +19,76 @@ const PAGE: u64 = 4096;
 // how far the memory that one device works on is from that of the next
 const STRIDE: u64 = 65_536;
 
+// what of a machine isn't the same for all sizes
+#[derive(Clone, Copy, Debug)]
+struct Sizes {
+    // how many requests each device has, and how many of them are done before the move
+    requests: u32,
+    begin: u32,
+    // how many passes come before the devices stop, at most
+    rounds: u32,
+    pages: u32,
+    // bytes of the BAR of each device
+    bar: u32,
+}
+
 /// The description of eight devices that have these requests each: writes of 64 and of 8 bytes and adds, all to memory
 /// of 256 pages of 4,096 bytes.
 pub fn sized_description(alloc: Global, requests: u32) -> Result<Desc>
     ensures { IfOk result IsValid }
 {
-    description(alloc, requests, 0, 0)
+    let sizes = Sizes {
+        requests,
+        begin: 0,
+        rounds: 0,
+        pages: 256,
+        bar: 4096,
+    };
+    description(alloc, sizes)
 }
 
 /// The same machine, which is moved once three quarters of its requests are done, with up to three passes while it runs.
 pub fn moved_description(alloc: Global, requests: u32) -> Result<Desc>
     ensures { IfOk result IsValid }
 {
-    description(alloc, requests, requests - requests / 4, 3)
+    let sizes = Sizes {
+        requests,
+        begin: requests - requests / 4,
+        rounds: 3,
+        pages: 256,
+        bar: 4096,
+    };
+    description(alloc, sizes)
 }
 
-// the machine with so many requests of each device done before its move, and so many passes before its devices stop
-fn description(alloc: Global, requests: u32, begin: u32, rounds: u32) -> Result<Desc>
+/// The same machine with as many requests, as many pages and as large BARs as one may have: 50,000, 1,024 and 65,536 bytes,
+/// with up to eight passes while it runs.
+pub fn largest_description(alloc: Global) -> Result<Desc>
     ensures { IfOk result IsValid }
 {
-    let devices = shapes(alloc, requests)?;
+    let sizes = Sizes {
+        requests: MOST_REQUESTS,
+        begin: MOST_REQUESTS - MOST_REQUESTS / 4,
+        rounds: 8,
+        pages: 1024,
+        bar: 65_536,
+    };
+    description(alloc, sizes)
+}
+
+// the machine of these sizes
+fn description(alloc: Global, sizes: Sizes) -> Result<Desc>
+    ensures { IfOk result IsValid }
+{
+    let devices = shapes(alloc, sizes)?;
     let desc = Desc {
         session: 1,
         page: 4096,
-        pages: 256,
+        pages: sizes.pages,
         channels: 1,
         version: 1,
-        begin,
-        rounds,
+        begin: sizes.begin,
+        rounds: sizes.rounds,
         threshold: 0,
         devices,
     };
@@ -60,22 +102,22 @@ fn description(alloc: Global, requests: u32, begin: u32, rounds: u32) -> Result<
 }
 
 // the eight devices
-fn shapes(alloc: Global, requests: u32) -> Result<Shapes> {
+fn shapes(alloc: Global, sizes: Sizes) -> Result<Shapes> {
     let list = vec![in alloc;
-        shape(alloc, 0, requests)?,
-        shape(alloc, 1, requests)?,
-        shape(alloc, 2, requests)?,
-        shape(alloc, 3, requests)?,
-        shape(alloc, 4, requests)?,
-        shape(alloc, 5, requests)?,
-        shape(alloc, 6, requests)?,
-        shape(alloc, 7, requests)?,
+        shape(alloc, 0, sizes)?,
+        shape(alloc, 1, sizes)?,
+        shape(alloc, 2, sizes)?,
+        shape(alloc, 3, sizes)?,
+        shape(alloc, 4, sizes)?,
+        shape(alloc, 5, sizes)?,
+        shape(alloc, 6, sizes)?,
+        shape(alloc, 7, sizes)?,
     ]?;
     Ok(Shapes::of(list))
 }
 
 // a device of this number
-fn shape(alloc: Global, d: u8, requests: u32) -> Result<DevShape>
+fn shape(alloc: Global, d: u8, sizes: Sizes) -> Result<DevShape>
     requires { d < 8 }
 {
     let Some(name) = Name::of(&[b'd', b'0' + d]) else {
@@ -84,18 +126,18 @@ fn shape(alloc: Global, d: u8, requests: u32) -> Result<DevShape>
     let Some(flags) = Flags::of(7) else {
         bail!("no flags");
     };
-    let Some(bars) = Bars::of(&[4096]) else {
+    let Some(bars) = Bars::of(&[sizes.bar]) else {
         bail!("no BARs");
     };
     let jobs = jobs(alloc, u64::from(d) * STRIDE)?;
-    let queue = queue(alloc, requests)?;
+    let queue = queue(alloc, sizes.requests)?;
     Ok(DevShape {
         name,
         flags,
         bars,
         window: 4,
         tells: true,
-        budget: requests,
+        budget: sizes.requests,
         fails: 0,
         jobs,
         queue,

@@ -1,5 +1,5 @@
 -- A core whose parts are those of a list goes on as the list does; so does one that was staged after a list.
-use Rattle.std.proofs.Common.{◌≡◌, ◌≤◌, true, false, List, [], ◌∷◌, Option, None, Some, is_none, IsTrue, refl, ap, sym, subst, ◌∙◌, arith}
+use Rattle.std.proofs.Common.{◌≡◌, ◌≤◌, true, false, List, [], ◌∷◌, ◌++◌, Option, None, Some, is_none, IsTrue, refl, ap, sym, subst, ◌∙◌, arith}
 use Rattle.std.proofs.lemmas.Bool.{false≢true}
 use Rattle.std.proofs.lemmas.List.{length-map, length-replicate}
 use Rattle.vfm_types.specs.declared.desc.Desc.{Desc}
@@ -8,6 +8,7 @@ use Rattle.vfm_types.specs.declared.entry.Rule.{Rule}
 use Rattle.vfm_types.specs.Valid.{IsValid}
 use Rattle.vfm_plain.specs.Legal.{IsLegal, is_entry_of}
 use Rattle.vfm_plain.specs.Rules.{fault_of}
+use Rattle.vfm_laws.proofs.Rising.{by_bool}
 use Rattle.vfm_parts.specs.Parts.{World, parts_in}
 use Rattle.vfm_parts.specs.PartsOf.{world_of}
 use Rattle.vfm_parts.specs.Start.{first_dev, first_world}
@@ -19,6 +20,8 @@ use Rattle.vfm_parts_laws.specs.StagedParts.{IsStagedAfter}
 use Rattle.vfm_parts_laws.proofs.FittingWorlds.{first_fits}
 use Rattle.vfm_parts_laws.proofs.RoomWorlds.{first_room, list_stands}
 use Rattle.vfm_parts_laws.proofs.StagedWorlds.{staged_allowed, staged_legal, staged_follows}
+use Rattle.vfm_parts_laws.proofs.SealedSteps.{is_refused, refused}
+use Rattle.vfm_core.proofs.Counted.{counted_on}
 use Rattle.vfm_core.specs.CoreState.{CoreState, IsAfter, IsKept, IsStagedOn, with_entry}
 
 -- the parts judge as the list does
@@ -53,14 +56,20 @@ pub staged_refused : (D : Desc) (w : World) (entry : Entry) (past : List Entry) 
 staged_refused D w entry past rule named after broken =
     sym (staged_allowed D past w entry after named) ∙ ap is_none broken
 
-pub staged_goes_on : (old new : CoreState) (entry : Entry) (past : List Entry) → IsValid old.desc → IsTrue (is_entry_of old.desc entry)
-    → IsStagedOn old.desc past old.world → fault_on old.desc old.world entry ≡ None → new ≡ with_entry entry (after_on old.desc old.world entry) old
-    → IsStagedOn new.desc (entry ∷ past) new.world
-staged_goes_on old new entry past valid named is fine made =
-    subst (λ (s : CoreState). IsStagedOn s.desc (entry ∷ past) s.world) (sym made) record {
-      legal = staged_legal old.desc past old.world entry is.legal is.after named fine;
-      after = staged_follows old.desc past old.world entry valid is.legal is.after named fine;
+pub staged_goes_on : (old new : CoreState) (entry : Entry) (before mine : List Entry) → IsValid old.desc → IsTrue (is_entry_of old.desc entry)
+    → IsStagedOn old.desc before mine old.world → fault_on old.desc old.world entry ≡ None
+    → new ≡ with_entry entry (after_on old.desc old.world entry) old → IsStagedOn new.desc before (entry ∷ mine) new.world
+staged_goes_on old new entry before mine valid named is fine made =
+    subst (λ (s : CoreState). IsStagedOn s.desc before (entry ∷ mine) s.world) (sym made) record {
+      legal = staged_legal old.desc (mine ++ before) old.world entry is.legal is.after named fine;
+      after = staged_follows old.desc (mine ++ before) old.world entry valid is.legal is.after named fine;
+      counted = counted_on old.desc old.world entry before mine valid is.legal going is.counted;
     }
+  where
+    going : is_refused entry ≡ false
+    going =
+        by_bool (is_refused entry) (λ b. is_refused entry ≡ b → b ≡ false)
+        (λ barred e. absurd (refused old.desc (parts_in old.world) is.after.own entry e fine)) (λ allowed e. refl) refl
 
 -- what the core of the described machine keeps
 pub first_kept : (D : Desc) → IsValid D → IsKept D [] (room_of_run D) (first_world D)

@@ -1,6 +1,8 @@
 pub mod Outcomes
 pub mod LeadWorlds
 pub mod Kept
+pub mod Counted
+pub mod StagedLook
 pub mod Between
 pub mod Reached
 pub mod Follows

@@ -20,6 +20,7 @@ use Rattle.vfm_parts_laws.specs.StagedParts.{IsStagedAfter, staged_dev, staged_w
 use Rattle.vfm_parts_laws.proofs.FittingWorlds.{staged_fits}
 use Rattle.vfm_parts_laws.proofs.RoomWorlds.{staged_room, staged_stands}
 use Rattle.vfm_parts_laws.proofs.StagedWorlds.{staged_first}
+use Rattle.vfm_core.proofs.Counted.{first_counted}
 use Rattle.vfm_core.specs.CoreState.{CoreState, IsKept, IsStagedOn}
 use Rattle.vfm_core.specs.Loaded.{AreLoaded, device_in, loaded, sheets_of, staged_core}
 
@@ -70,11 +71,12 @@ staged_kept D parts are =
 -- it goes on from a list whose machine it is
 pub staged_begins : (D : Desc) (parts : List Part) (core : CoreState) (past : List Entry) → AreLoaded D parts → IsLegal D past → IsTrue (is_last_ended D past)
     → IsFalse (is_aborted past) → IsFalse (is_resumed past) → IsFalse (is_failed past) → machine_of D past ≡ loaded parts → core ≡ staged_core D parts
-    → IsStagedOn core.desc past core.world
+    → IsStagedOn core.desc past [] core.world
 staged_begins D parts core past are legal ended on here well same is =
-    subst (λ (s : CoreState). IsStagedOn s.desc past s.world) (sym is) record {
+    subst (λ (s : CoreState). IsStagedOn s.desc past [] s.world) (sym is) record {
       legal = legal;
       after = subst (λ (m : Machine). IsStagedAfter D past (staged_world D m)) same (staged_first D past are.valid legal ended on here well);
+      counted = first_counted D (loaded parts);
     }
 
 -- the device that stands at a place of the parts has the counts that the description allows

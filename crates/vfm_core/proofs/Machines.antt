@@ -1,5 +1,5 @@
 -- The machine in a core's parts is that of its list.
-use Rattle.std.proofs.Common.{◌≡◌, ℕ, ◌<◌, List, [], length, map, reverse, Some, slice_index_or, ap, ap₂, sym, ◌∙◌}
+use Rattle.std.proofs.Common.{◌≡◌, ℕ, ◌<◌, List, [], ◌++◌, length, map, reverse, Some, slice_index_or, ap, ap₂, sym, subst, ◌∙◌}
 use Rattle.std.proofs.lemmas.List.{length-map, get_or_default}
 use Rattle.std.proofs.Math.ListN.{get_or-map}
 use Rattle.vfm_laws.proofs.Cleanness.{legal_clean}
@@ -7,11 +7,12 @@ use Rattle.vfm_laws.proofs.Enabled.{machine_sound, plain_exists}
 use Rattle.vfm_parts.proofs.Worlds.{world_tells}
 use Rattle.vfm_types.specs.declared.desc.Desc.{Desc}
 use Rattle.vfm_types.specs.declared.entry.Entry.{Entry}
-use Rattle.vfm_types.specs.Desc.{device_count}
+use Rattle.vfm_types.specs.Desc.{device_count, shape_at}
 use Rattle.vfm_types.specs.Deliveries.{delivers, machine_of, page_bytes}
 use Rattle.vfm_types.specs.Machine.{DeviceState, Machine, device_of, no_device}
 use Rattle.vfm_types.specs.Requests.{plain}
 use Rattle.vfm_plain.specs.Clean.{IsClean}
+use Rattle.vfm_plain.specs.Shape.{DeviceHasShape, HasShape}
 use Rattle.vfm_parts.specs.Parts.{Dev, World, dev_at, no_dev, page_at}
 use Rattle.vfm_parts.proofs.Listed.{listed_items, listed_same}
 use Rattle.vfm_core.specs.CoreState.{FitsDesc, IsAfter, IsStagedOn}
@@ -36,8 +37,9 @@ after_machine D past w fit is =
     (λ d h. ap (λ (v : World). (dev_at v d).plain) is.told ∙ ap (λ (dev : Dev). dev.plain) ((world_tells D past).dev d h))
     (λ p h. ap (λ (v : World). page_at v p) is.told ∙ (world_tells D past).page p h)
 
-staged_machine : (D : Desc) (past : List Entry) (w : World) → FitsDesc D w → IsStagedOn D past w → machine_in w ≡ machine_of D past
-staged_machine D past w fit is =
+staged_machine : (D : Desc) (before mine : List Entry) (w : World) → FitsDesc D w → IsStagedOn D before mine w → machine_in w ≡ machine_of D (mine ++ before)
+staged_machine D before mine w fit is =
+    let past = mine ++ before in
     let sound = machine_sound D fit.valid past is.legal in
     same_machine D w (machine_of D past) fit.devs fit.pages sound.shape.devices sound.shape.pages
     (λ d h. ap (λ (dev : Dev). dev.plain) (is.after.agrees.dev d) ∙ ap (λ (dev : Dev). dev.plain) ((world_tells D past).dev d h))
@@ -49,11 +51,13 @@ after_clean D past w fit is = legal_clean D fit.valid past is.legal
 pub after_plain : (D : Desc) (past : List Entry) (w : World) → FitsDesc D w → IsAfter D past w → plain D (delivers (reverse past)) ≡ Some (machine_in w)
 after_plain D past w fit is = plain_exists D fit.valid past is.legal ∙ ap Some (sym (after_machine D past w fit is))
 
-pub staged_clean : (D : Desc) (past : List Entry) (w : World) → FitsDesc D w → IsStagedOn D past w → IsClean D past
-staged_clean D past w fit is = legal_clean D fit.valid past is.legal
+pub staged_clean : (D : Desc) (before mine : List Entry) (w : World) → FitsDesc D w → IsStagedOn D before mine w → IsClean D (mine ++ before)
+staged_clean D before mine w fit is = legal_clean D fit.valid (mine ++ before) is.legal
 
-pub staged_plain : (D : Desc) (past : List Entry) (w : World) → FitsDesc D w → IsStagedOn D past w → plain D (delivers (reverse past)) ≡ Some (machine_in w)
-staged_plain D past w fit is = plain_exists D fit.valid past is.legal ∙ ap Some (sym (staged_machine D past w fit is))
+pub staged_plain : (D : Desc) (before mine : List Entry) (w : World) → FitsDesc D w → IsStagedOn D before mine w
+    → plain D (delivers (reverse (mine ++ before))) ≡ Some (machine_in w)
+staged_plain D before mine w fit is =
+    plain_exists D fit.valid (mine ++ before) is.legal ∙ ap Some (sym (staged_machine D before mine w fit is))
 
 -- the plain states of equal lists of them are equal one by one
 pub plain_at : (xs ys : List Dev) (d : ℕ) (x y : Dev) → d < length xs → d < length ys → map plain_of xs ≡ map plain_of ys
@@ -61,3 +65,17 @@ pub plain_at : (xs ys : List Dev) (d : ℕ) (x y : Dev) → d < length xs → d 
 plain_at xs ys d x y h k same =
     ap plain_of (get_or_default xs d x no_dev h) ∙ sym (get_or-map plain_of xs d no_dev) ∙ ap (λ (list : List DeviceState). slice_index_or list d no_device) same
     ∙ get_or-map plain_of ys d no_dev ∙ ap plain_of (sym (get_or_default ys d y no_dev k))
+
+-- a device of the machine in a world is the plain state of its part
+pub plain_here : (devs : List Dev) (d : ℕ) → slice_index_or (map plain_of devs) d no_device ≡ (slice_index_or devs d no_dev).plain
+plain_here devs d = get_or-map plain_of devs d no_dev
+
+-- the machine in a world has the sizes that the description has
+pub shape_in : (D : Desc) (w : World) → FitsDesc D w → HasShape D (machine_in w)
+shape_in D w fit =
+    record {
+      pages = fit.pages;
+      page = λ p h. fit.fits.page p h;
+      devices = length-map w.devs plain_of ∙ fit.devs;
+      device = λ d h. subst (DeviceHasShape (shape_at D d)) (sym (plain_here w.devs d)) (fit.fits.dev d h).shape;
+    }

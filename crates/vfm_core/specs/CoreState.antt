@@ -2,12 +2,14 @@
 use Rattle.std.specs.Prelude.{◌≡◌, ℕ, ◌+◌, ◌<◌, ◌≤◌, List, [], ◌∷◌, ◌++◌, length, slice_index_or}
 use Rattle.vfm_types.specs.declared.desc.Desc.{Desc}
 use Rattle.vfm_types.specs.declared.entry.Entry.{Entry}
+use Rattle.vfm_types.specs.Arcs.{arc_count}
 use Rattle.vfm_types.specs.Desc.{device_count}
+use Rattle.vfm_types.specs.Outstanding.{complete_count, issue_count}
 use Rattle.vfm_types.specs.Valid.{IsValid}
 use Rattle.vfm_plain.specs.Legal.{IsLegal}
 use Rattle.vfm_parts.specs.PartsOf.{world_of}
-use Rattle.vfm_parts_laws.specs.StagedParts.{IsStagedAfter}
-use Rattle.vfm_parts.specs.Parts.{Dev, Lead, World, parts_in}
+use Rattle.vfm_parts_laws.specs.StagedParts.{IsStagedAfter, staged_lead}
+use Rattle.vfm_parts.specs.Parts.{Dev, Lead, World, dev_at, parts_in}
 use Rattle.vfm_parts.specs.Start.{first_world}
 use Rattle.vfm_parts.specs.Fits.{PageFits, PartsFit}
 use Rattle.vfm_parts_laws.specs.EntriesLeft.{PartsStand, entries_left}
@@ -54,7 +56,26 @@ pub record IsAfter (D : Desc) (past : List Entry) (w : World) : Type 0 where
   pub legal : IsLegal D past
   pub told : w ≡ world_of D past
 
--- the parts are those of a machine that was staged after a legal list, where that and the entries made since are this one
-pub record IsStagedOn (D : Desc) (past : List Entry) (w : World) : Type 0 where
-  pub legal : IsLegal D past
-  pub after : IsStagedAfter D past w
+-- how often a device issued, completed, and took an arc: by its part, and by a list
+abbrev pub steps_in : Dev → ℕ × (ℕ × ℕ)
+steps_in dev = (dev.issues, (dev.completes, dev.arcs))
+
+abbrev pub steps_of : ℕ → List Entry → ℕ × (ℕ × ℕ)
+steps_of d mine = (issue_count d mine, (complete_count d mine, arc_count d mine))
+
+-- the coordinator's part is that of a machine just staged, but that the move may have been given up or taken over since
+abbrev pub IsBare : Desc → Lead → Type 0
+IsBare D lead =
+    lead ≡ record (staged_lead D) { aborted = lead.aborted; resumed = lead.resumed; failed = lead.failed }
+
+-- what was counted since a machine was staged is what the entries made since say
+pub record HaveCounted (D : Desc) (mine : List Entry) (w : World) : Type 0 where
+  pub lead : IsBare D w.lead
+  pub devs : (d : ℕ) → d < device_count D → steps_in (dev_at w d) ≡ steps_of d mine
+
+-- The parts are those of a machine that was staged after a list, `before`, and has made the entries `mine` since; both
+-- together are legal.
+pub record IsStagedOn (D : Desc) (before mine : List Entry) (w : World) : Type 0 where
+  pub legal : IsLegal D (mine ++ before)
+  pub after : IsStagedAfter D (mine ++ before) w
+  pub counted : HaveCounted D mine w

@@ -29,9 +29,10 @@ pub fn cores_are_plain()
         → plain D (delivers (reverse past)) ≡ Some (machine_in w) }
 {}
 
-/// So it is of a core that was staged after a legal list.
+/// So it is of a core that was staged after a legal list, with the entries that it made since.
 pub fn staged_cores_are_plain()
-    ensures clean { (D : Desc) (past : List Entry) (w : World) → FitsDesc D w → IsStagedOn D past w → IsClean D past }
-    ensures machine { (D : Desc) (past : List Entry) (w : World) → FitsDesc D w → IsStagedOn D past w
-        → plain D (delivers (reverse past)) ≡ Some (machine_in w) }
+    ensures clean { (D : Desc) (before mine : List Entry) (w : World) → FitsDesc D w → IsStagedOn D before mine w
+        → IsClean D (mine ++ before) }
+    ensures machine { (D : Desc) (before mine : List Entry) (w : World) → FitsDesc D w → IsStagedOn D before mine w
+        → plain D (delivers (reverse (mine ++ before))) ≡ Some (machine_in w) }
 {}

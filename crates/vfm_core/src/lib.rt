@@ -11,6 +11,7 @@ mod same;
 mod split;
 mod staged;
 mod step;
+mod view;
 
 pub use laws::{cores_are_plain, staged_cores_are_plain, steps_are_kept};
 pub use machine::Core;

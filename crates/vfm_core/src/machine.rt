@@ -1,6 +1,6 @@
 //! The core.
 
-ghost use Rattle.std.specs.Prelude.{◌≡◌, ◌*◌, ◌<◌, ◌∷◌, false, drop, is_none, length, take, [], List, None, Some, IfOk, IsTrue, MatchResult, OnErr, OnOk};
+ghost use Rattle.std.specs.Prelude.{◌≡◌, ◌*◌, ◌<◌, ◌∷◌, ◌++◌, false, drop, is_none, length, take, [], List, None, Some, IfOk, IsTrue, MatchResult, OnErr, OnOk};
 ghost use Rattle.vfm_types.specs.declared.entry.Entry.{Entry as Item};
 ghost use Rattle.vfm_types.specs.Desc.{block_count, device_count, shape_at};
 ghost use Rattle.vfm_types.specs.Valid.{IsValid};
@@ -9,7 +9,7 @@ ghost use Rattle.vfm_plain.specs.Rules.{fault_of};
 ghost use Rattle.vfm_parts.specs.Parts.{dev_at, page_at, parts_in};
 ghost use Rattle.vfm_parts.specs.Steps.{after_on, fault_on};
 ghost use Rattle.vfm_order.specs.Alike.{IsAlike};
-ghost use Rattle.vfm_order.specs.LookAfter.{look_after};
+ghost use Rattle.vfm_order.specs.LookAfter.{look_after, staged_look_after};
 ghost use Rattle.vfm_device_part.specs.Pick.{enabled_steps, picked};
 ghost use Rattle.vfm_lead.specs.Shown.{Shows};
 ghost use Rattle.vfm_core.specs.CoreState.{FitsDesc, IsAfter, IsStagedOn, first_core, with_entry};
@@ -89,10 +89,11 @@ impl Core {
             → MatchResult result (λ _. fault_of self.old.desc past e ≡ None) (λ guard. fault_of self.old.desc past e ≡ Some guard.0) }
         ensures follows { (past : List Item) → IsAfter self.old.desc past self.old.world
             → OnOk result (IsAfter self.new.desc (e ∷ past) self.new.world) }
-        ensures staged_rule { (past : List Item) → IsStagedOn self.old.desc past self.old.world
-            → MatchResult result (λ _. fault_of self.old.desc past e ≡ None) (λ _. is_none (fault_of self.old.desc past e) ≡ false) }
-        ensures staged { (past : List Item) → IsStagedOn self.old.desc past self.old.world
-            → OnOk result (IsStagedOn self.new.desc (e ∷ past) self.new.world) }
+        ensures staged_rule { (before mine : List Item) → IsStagedOn self.old.desc before mine self.old.world
+            → MatchResult result (λ _. fault_of self.old.desc (mine ++ before) e ≡ None)
+            (λ _. is_none (fault_of self.old.desc (mine ++ before) e) ≡ false) }
+        ensures staged { (before mine : List Item) → IsStagedOn self.old.desc before mine self.old.world
+            → OnOk result (IsStagedOn self.new.desc before (e ∷ mine) self.new.world) }
     {
         self.make(e)
     }
@@ -154,11 +155,14 @@ impl Core {
 
     /// What can be seen of the move and of its devices.
     ///
-    /// Where the parts are those of a legal list, the look shows what the look after the list does.
+    /// Where the parts are those of a legal list, the look shows what the look after the list does. In a core that was staged
+    /// after a list it shows what the look of a machine staged so does, with the entries made since.
     pub fn look(&self) -> MoveLook
         ensures shows { Shows self.now.desc (parts_in self.now.world) result }
         ensures follows { (past : List Item) → IsAfter self.now.desc past self.now.world
             → IsAlike result (look_after self.now.desc past) }
+        ensures staged { (before mine : List Item) → IsStagedOn self.now.desc before mine self.now.world
+            → IsAlike result (staged_look_after self.now.desc before mine) }
     {
         look_of(&self.desc, &self.lead, self.devices.as_slice())
     }

@@ -34,7 +34,7 @@ impl Core {
         ensures core { IfOk result (λ core. core ≡ staged_core desc parts.items) }
         ensures begins { (past : List Entry) → IsLegal desc past → IsTrue (is_last_ended desc past) → IsFalse (is_aborted past)
             → IsFalse (is_resumed past) → IsFalse (is_failed past) → machine_of desc past ≡ loaded parts.items
-            → IfOk result (λ core. IsStagedOn core.desc past core.world) }
+            → IfOk result (λ core. IsStagedOn core.desc past [] core.world) }
     {
         let pages = loaded_pages(alloc, &desc, parts.as_slice())?;
         let devices = loaded_devices(alloc, &desc, parts.as_slice())?;

@@ -144,6 +144,43 @@ fn a_device_waits_for_its_own_writes(rt: HostRuntime) -> Result<(), Fail> {
     Ok(())
 }
 
+// Whether the digest of a core has these digits.
+fn has_digest(alloc: Global, core: &Core, digits: &str) -> Result<bool, Fail> {
+    let text = hex::encode(alloc, &core.digest())?;
+    Ok(text.as_str() == digits)
+}
+
+#[test]
+fn a_core_has_the_digest_of_its_machine(rt: HostRuntime) -> Result<(), Fail> {
+    let alloc = rt.alloc();
+    let mut jobs = Vec::new(alloc);
+    jobs.push(write(BAR_OF_B + 64, &[0xa1])?)?;
+    let mut devices = Vec::new(alloc);
+    devices.push(device(alloc, b"a", 7, 128, jobs, &[0])?)?;
+    devices.push(device(alloc, b"b", 7, 128, Vec::new(alloc), &[])?)?;
+    let limits = Limits {
+        pages: 1,
+        begin: 1,
+        rounds: 0,
+    };
+    let mut core = Core::of(alloc, machine(&rt, limits, devices)?)?;
+    // the SHA-256 of the lines of each machine by another program
+    let at_first = "d3d19dbdf6ec431fc54fab5f3ebd82a7aca426ff1f04fff0a9dd9caf95cdda51";
+    assert!(rt; has_digest(alloc, &core, at_first)?);
+    // an issue changes no machine, and a delivery does
+    assert!(rt; comes_so(&mut core, &[(Entry::Issue { d: A, n: 0 }, None)]));
+    assert!(rt; has_digest(alloc, &core, at_first)?);
+    assert!(rt; comes_so(&mut core, &[(Entry::Deliver { d: A, n: 0 }, None)]));
+    assert!(rt;
+        has_digest(
+            alloc,
+            &core,
+            "836fd84f7537fe1b2e33f1b6a16e1993aa40789754387487f466f9a798566e2c"
+        )?
+    );
+    Ok(())
+}
+
 // Three devices with P2P and PRE_COPY, and nothing to do.
 fn three(rt: &impl Abort, alloc: Global) -> Result<Core, Fail> {
     let mut devices = Vec::new(alloc);

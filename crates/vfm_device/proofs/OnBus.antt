@@ -1,7 +1,6 @@
 -- What stands at a place among the requests on the bus, and what is taken or changed there.
-use Rattle.std.proofs.Common.{◌≡◌, ℕ, zero, suc, ◌+◌, ◌<◌, ◌≤◌, ◌==◌, not, true, false, if◌then◌else◌, List, [], ◌∷◌, ◌++◌, length, take, remove, slice_index_or, slice_set, Some, None, refl, ap, ◌∙◌, eq-eqb, arith}
+use Rattle.std.proofs.Common.{◌≡◌, ℕ, zero, suc, ◌+◌, ◌<◌, ◌≤◌, ◌==◌, not, Bool, true, false, if◌then◌else◌, List, [], ◌∷◌, ◌++◌, length, take, remove, slice_index_or, slice_set, Some, None, refl, ap, eq-eqb, arith}
 use Rattle.std.proofs.lemmas.Bool.{or_parts}
-use Rattle.std.proofs.lemmas.List.{take_more}
 use Rattle.vfm_types.specs.Outstanding.{Outstanding, complete_if, deliver_if, is_arrived, is_outstanding, is_undelivered, outstanding_job_or_zero, undelivered_count}
 use Rattle.vfm_device.specs.Bus.{StandsAt, no_request, outstanding_at}
 
@@ -86,11 +85,36 @@ undelivered_more (x ∷ requests) r =
     let after : undelivered_count (requests ++ r ∷ []) ≡ undelivered_count requests + (if r.is_delivered then 0 else 1) = undelivered_more requests r in
     omega (arith, after)
 
--- how many of the first wait, with the next one
-pub undelivered_next : (requests : List Outstanding) (k : ℕ) → k < length requests
-    → undelivered_count (take (k + 1) requests) ≡ undelivered_count (take k requests) + (if (slice_index_or requests k no_request).is_delivered then 0 else 1)
-undelivered_next requests k within =
-    ap undelivered_count (take_more requests k no_request within) ∙ undelivered_more (take k requests) (slice_index_or requests k no_request)
+-- at most all wait
+pub undelivered_most : (requests : List Outstanding) → undelivered_count requests ≤ length requests
+undelivered_most [] = omega arith
+undelivered_most (r ∷ requests) = go r.is_delivered (undelivered_most requests)
+  where
+    go : (b : Bool) → undelivered_count requests ≤ length requests → undelivered_count requests + (if b then 0 else 1) ≤ suc (length requests)
+    go true rest = omega (arith, rest)
+    go false rest = omega (arith, rest)
+
+-- how many wait, beside the one at a place that is taken off
+pub undelivered_removed : (requests : List Outstanding) (k : ℕ) (none : Outstanding) → k < length requests
+    → undelivered_count requests ≡ undelivered_count (remove requests k) + (if (slice_index_or requests k none).is_delivered then 0 else 1)
+undelivered_removed [] k none within = absurd (omega arith)
+undelivered_removed (r ∷ requests) zero none within = refl
+undelivered_removed (r ∷ requests) (suc k) none within =
+    let rest : undelivered_count requests ≡ undelivered_count (remove requests k) + (if (slice_index_or requests k none).is_delivered then 0 else 1) =
+    undelivered_removed requests k none (omega arith) in
+    omega (arith, rest)
+
+-- and beside the one at a place where a delivered one is put
+pub undelivered_marked : (requests : List Outstanding) (k : ℕ) (none x : Outstanding) → x.is_delivered ≡ true → k < length requests
+    → undelivered_count requests ≡ undelivered_count (slice_set requests k x) + (if (slice_index_or requests k none).is_delivered then 0 else 1)
+undelivered_marked [] k none x marked within = absurd (omega arith)
+undelivered_marked (r ∷ requests) zero none x marked within =
+    let counts : undelivered_count (x ∷ requests) ≡ undelivered_count requests + 0 = ap (λ (b : Bool). undelivered_count requests + (if b then 0 else 1)) marked in
+    omega (arith, counts)
+undelivered_marked (r ∷ requests) (suc k) none x marked within =
+    let rest : undelivered_count requests ≡ undelivered_count (slice_set requests k x) + (if (slice_index_or requests k none).is_delivered then 0 else 1) =
+    undelivered_marked requests k none x marked (omega arith) in
+    omega (arith, rest)
 
 pub stands_outstanding : (n k : ℕ) (requests : List Outstanding) → StandsAt n k requests → is_outstanding n requests ≡ true
 stands_outstanding n k requests =

@@ -5,6 +5,7 @@ use Rattle.std.proofs.lemmas.Option.{none-some}
 use Rattle.std.proofs.lemmas.List.Elements.{All-head, All-tail}
 use Rattle.vfm_base.specs.Tests.{first_failed}
 use Rattle.vfm_types.specs.declared.desc.Desc.{Desc}
+use Rattle.vfm_types.specs.declared.entry.Rule.{Rule}
 use Rattle.vfm_types.specs.declared.entry.Rule.TheVariants.{Barred, Start, Turn}
 use Rattle.vfm_types.specs.Desc.{job_at, shape_at}
 use Rattle.vfm_types.specs.Requests.{fences, job_or_zero}
@@ -15,8 +16,17 @@ use Rattle.vfm_laws.specs.Queues.{waiting, is_listed, IsRising}
 use Rattle.vfm_laws.proofs.Rising.{by_bool, unlisted_front, job_behind}
 use Rattle.vfm_parts.specs.IssueStep.{is_next_to_issue_in, is_request_allowed_in, issue_conditions_in, may_issue_yet_in}
 use Rattle.vfm_parts.specs.PartWords.{is_job_allowed_in}
-use Rattle.vfm_device.specs.EngineState.{EngineState, EngineKept, NextIs, barred_by, first_item, judged, next_or_zero, part_of, plain_with, unissued_in}
+use Rattle.vfm_device.specs.EngineState.{EngineState, EngineKept, NextIs, barred_by, first_item, next_or_zero, part_of, plain_with, unissued_in}
 use Rattle.vfm_device.proofs.NextRequest.{unissued_is}
+
+-- the first rule that is broken of the three of an issue
+abbrev judged : Bool → Bool → Bool → Option Rule
+judged turn allowed start = first_failed ((turn, Turn) ∷ (allowed, Barred) ∷ (start, Start) ∷ [])
+
+-- it is the turn of a request for this job
+abbrev has_turn : Desc → ℕ → EngineState → ℕ → Bool
+has_turn D d e job =
+    nat_lt (length e.requests) (shape_at D d).window && not (has_fence D d e.requests) && (not (fences D d job) || is_nothing e.requests)
 
 -- what holds of each item holds of one behind others
 behind : {X : Type 0} (P : X → Type 0) (front : List X) (x : X) (rest : List X) → All P (front ++ x ∷ rest) → P x
@@ -69,6 +79,24 @@ barred_some D d begun e r next = go begun
         (b || nat_lt e.issues D.begin)
     go true = rw (next.number, next.job, eq-eqb r.0 r.0 refl) refl
     go false = rw (next.number, next.job, eq-eqb r.0 r.0 refl) refl
+
+pub barred_turn : (D : Desc) (d : ℕ) (begun : Bool) (e : EngineState) (r : ℕ × ℕ) → NextIs D d e r → has_turn D d e r.1 ≡ false
+    → barred_by D d begun e ≡ Some Turn
+barred_turn D d begun e r next waits = barred_some D d begun e r next ∙ (rw waits refl)
+
+pub barred_job : (D : Desc) (d : ℕ) (begun : Bool) (e : EngineState) (r : ℕ × ℕ) → NextIs D d e r → has_turn D d e r.1 ≡ true
+    → is_job_allowed_in D d (job_at D d r.1) (part_of begun e) ≡ false → barred_by D d begun e ≡ Some Barred
+barred_job D d begun e r next turn bars = barred_some D d begun e r next ∙ (rw (turn, bars) refl)
+
+pub barred_start : (D : Desc) (d : ℕ) (begun : Bool) (e : EngineState) (r : ℕ × ℕ) → NextIs D d e r → has_turn D d e r.1 ≡ true
+    → is_job_allowed_in D d (job_at D d r.1) (part_of begun e) ≡ true → (begun || nat_lt e.issues D.begin) ≡ false
+    → barred_by D d begun e ≡ Some Start
+barred_start D d begun e r next turn allowed early = barred_some D d begun e r next ∙ (rw (turn, allowed, early) refl)
+
+pub not_barred : (D : Desc) (d : ℕ) (begun : Bool) (e : EngineState) (r : ℕ × ℕ) → NextIs D d e r → has_turn D d e r.1 ≡ true
+    → is_job_allowed_in D d (job_at D d r.1) (part_of begun e) ≡ true → (begun || nat_lt e.issues D.begin) ≡ true
+    → barred_by D d begun e ≡ None
+not_barred D d begun e r next turn allowed starts = barred_some D d begun e r next ∙ (rw (turn, allowed, starts) refl)
 
 -- each request on the bus is yet to be delivered or was
 pub counts_add : (requests : List Outstanding) → undelivered_count requests + delivered_count requests ≡ length requests

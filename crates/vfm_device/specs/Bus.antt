@@ -1,6 +1,6 @@
 -- The requests that a device has on the bus, and where one of them stands among them.
-use Rattle.std.specs.Prelude.{◌≡◌, ℕ, ◌-◌, ◌<◌, ◌==◌, Bool, true, false, not, if◌then◌else◌, List, [], ◌∷◌, Option, Some, None, length, slice_index_or, suc, take, zero}
-use Rattle.vfm_types.specs.Outstanding.{Outstanding, is_outstanding}
+use Rattle.std.specs.Prelude.{◌≡◌, ℕ, ◌-◌, ◌<◌, ◌≤◌, ◌==◌, Bool, true, false, not, if◌then◌else◌, List, [], ◌∷◌, Option, Some, None, length, slice_index_or, suc, take, zero}
+use Rattle.vfm_types.specs.Outstanding.{Outstanding, is_outstanding, undelivered_count}
 
 -- what stands where no request stands
 abbrev pub no_request : Outstanding
@@ -11,6 +11,11 @@ pub record StandsAt (n k : ℕ) (requests : List Outstanding) : Type 0 where
   pub within : k < length requests
   pub number : (slice_index_or requests k no_request).number ≡ n
   pub first : is_outstanding n (take k requests) ≡ false
+
+-- what a bus keeps: room for eight requests, and the count of those that are yet to be delivered
+pub record BusKept (requests : List Outstanding) (waiting room : ℕ) : Type 0 where
+  pub roomy : 8 ≤ room
+  pub counted : waiting ≡ undelivered_count requests
 
 -- the number of the request at place i of these, and whether it was delivered
 abbrev pub outstanding_at : List Outstanding → ℕ → Option (ℕ × Bool)

@@ -4,7 +4,6 @@ use Rattle.vfm_base.specs.Tests.{first_failed}
 use Rattle.vfm_types.specs.declared.desc.Desc.{Desc}
 use Rattle.vfm_types.specs.declared.desc.DevShape.{DevShape}
 use Rattle.vfm_types.specs.declared.entry.Rule.{Rule}
-use Rattle.vfm_types.specs.declared.entry.Rule.TheVariants.{Barred, Start, Turn}
 use Rattle.vfm_types.specs.declared.look.DevLook.{DevLook}
 use Rattle.vfm_types.specs.declared.state.MigState.{MigState}
 use Rattle.vfm_types.specs.declared.state.MigState.TheVariants.{Running, StopCopy, Resuming}
@@ -127,10 +126,6 @@ abbrev pub item_at : List (ℕ × ℕ) → ℕ → Option (ℕ × ℕ)
 item_at [] k = None
 item_at (request ∷ requests) zero = Some request
 item_at (request ∷ requests) (suc k) = item_at requests k
-
--- the first rule that is broken of the three of an issue
-abbrev pub judged : Bool → Bool → Bool → Option Rule
-judged turn allowed start = first_failed ((turn, Turn) ∷ (allowed, Barred) ∷ (start, Start) ∷ [])
 
 -- the first rule that bars the next issue of device d; Turn where no request is left to be issued
 abbrev pub barred_by : Desc → ℕ → Bool → EngineState → Option Rule

@@ -39,17 +39,20 @@ impl Model for Flight {
 #[derive(Drop)]
 pub struct Bus {
     flights: Vec<Flight>,
+    // how many of them are yet to be delivered
+    waiting: u32,
 }
 
 impl Model for Bus {
-    ghost use Rattle.std.specs.Prelude.{List, vec_capacity, ◌≤◌};
+    ghost use Rattle.std.specs.Prelude.{List, vec_capacity};
     ghost use Rattle.vfm_types.specs.Outstanding.{Outstanding};
+    ghost use Rattle.vfm_device.specs.Bus.{BusKept};
 
     ghost Value = { List Outstanding };
 
     ghost view = { λ b. b.flights.items };
 
-    ghost invariant = { λ b. 8 ≤ vec_capacity b.flights };
+    ghost invariant = { λ b. BusKept b.flights.items b.waiting (vec_capacity b.flights) };
 }
 
 impl Bus {
@@ -59,6 +62,7 @@ impl Bus {
     {
         Ok(Bus {
             flights: Vec::with_capacity(alloc, WIDEST_WINDOW)?,
+            waiting: 0,
         })
     }
 
@@ -96,6 +100,7 @@ impl Bus {
     }
 
     /// Puts a request on it, which is yet to be delivered.
+    #[tactic(auto, using(crate::proofs::OnBus::undelivered_more))]
     pub fn push(&mut self, number: u32, job: u32)
         requires { length self.old < 8 }
         ensures { self.new ≡ self.old ++ (record { number = number; job = job; is_delivered = false }) ∷ [] }
@@ -105,6 +110,7 @@ impl Bus {
             job,
             is_delivered: false,
         });
+        self.waiting += 1;
     }
 
     /// Whether request `n` is on it and is yet to be delivered.
@@ -159,6 +165,7 @@ impl Bus {
                 job: flight.job,
                 is_delivered: true,
             };
+            self.waiting -= waiting(flight);
         }
     }
 
@@ -168,22 +175,16 @@ impl Bus {
         ensures { self.new ≡ complete_if true n self.old }
     {
         if let Some(k) = find(&self.flights, n) {
-            let _ = self.flights.remove(k);
+            let flight = self.flights.remove(k);
+            self.waiting -= waiting(flight);
         }
     }
 
     /// How many of its requests are yet to be delivered.
-    #[tactic(auto, using(crate::proofs::OnBus::undelivered_next))]
     pub fn undelivered(&self) -> u32
-        requires { length self.now ≤ 8 }
-        ensures value { result ≡ undelivered_count self.now }
-        ensures most { result ≤ length self.now }
+        ensures { result ≡ undelivered_count self.now }
     {
-        let mut count = 0;
-        for k in 0..self.flights.len() {
-            count += waiting(self.flights[k]);
-        }
-        count
+        self.waiting
     }
 
     /// How many of its requests were delivered.

@@ -1,6 +1,6 @@
 //! The engine of one device.
 
-ghost use Rattle.std.specs.Prelude.{◌≡◌, ◌<◌, ◌≤◌, ◌+◌, ◌&&◌, ◌||◌, not, Bool, None, Some, true, length, is_some, nat_lt, IfOk, IfErr, IfSome, MatchResult};
+ghost use Rattle.std.specs.Prelude.{◌≡◌, ◌<◌, ◌≤◌, ◌+◌, ◌&&◌, ◌||◌, not, Bool, None, Some, true, length, is_some, nat_lt, IfOk, IfErr, IfSome, IfNone, MatchResult};
 ghost use Rattle.vfm_base.specs.Tests.{first_failed};
 ghost use Rattle.vfm_types.specs.Desc.{device_count, job_at, shape_at};
 ghost use Rattle.vfm_laws.specs.Queues.{is_listed};
@@ -16,7 +16,7 @@ ghost use Rattle.vfm_device.specs.EngineState.{EngineKept, NextIs, barred_by, de
 
 use crate::bus::Bus;
 use crate::queue::{Queue, place_of};
-use crate::turn::{is_allowed, item_at, job_at, judged, shape_at};
+use crate::turn::{is_allowed, item_at, job_at, shape_at};
 use std::alloc::Global;
 use std::marker::Model;
 use vfm_plain::put_bytes;
@@ -110,8 +110,7 @@ impl Engine {
 
     // the next request to be issued, if one is left: its number and the number of its job
     fn next_request(&self, desc: &Desc, d: DeviceId) -> Option<(u32, u32)>
-        requires kept { EngineKept desc.now d self.now }
-        requires window { length self.now.requests ≤ 8 }
+        requires { EngineKept desc.now d self.now }
         ensures value { result ≡ first_item (unissued_in self.now) }
         ensures next { IfSome result (NextIs desc.now d self.now) }
     {
@@ -121,8 +120,7 @@ impl Engine {
 
     // how many requests are yet to be issued
     fn unissued_count(&self, desc: &Desc, d: DeviceId) -> u32
-        requires kept { EngineKept desc.now d self.now }
-        requires window { length self.now.requests ≤ 8 }
+        requires { EngineKept desc.now d self.now }
         ensures { result ≡ length (unissued_in self.now) }
     {
         self.queue.count() - self.bus.undelivered()
@@ -167,16 +165,28 @@ impl Engine {
         ensures { result ≡ barred_by desc.now d begun self.now }
     {
         match self.next_request(desc, d) {
-            Some((_, job)) => {
-                let turn = self.has_turn(desc, d, job);
-                judged(
-                    turn,
-                    self.is_allowed(desc, d, job),
-                    self.may_start(desc, begun),
-                )
-            }
+            Some(request) => self.barred_for(desc, d, begun, request),
             None => Some(Rule::Turn),
         }
+    }
+
+    // the same, where this is the next request
+    fn barred_for(&self, desc: &Desc, d: DeviceId, begun: bool, request: (u32, u32)) -> Option<Rule>
+        requires valid { IsValid desc.now }
+        requires kept { EngineKept desc.now d self.now }
+        requires next { NextIs desc.now d self.now request }
+        ensures { result ≡ barred_by desc.now d begun self.now }
+    {
+        if !self.has_turn(desc, d, request.1) {
+            return Some(Rule::Turn);
+        }
+        if !self.is_allowed(desc, d, request.1) {
+            return Some(Rule::Barred);
+        }
+        if !self.may_start(desc, begun) {
+            return Some(Rule::Start);
+        }
+        None
     }
 
     /// The first rule that bars the issue of request `n` of device `d`. `begun` says that Begin, Abort or Resume was made.
@@ -186,7 +196,7 @@ impl Engine {
         ensures { result ≡ first_failed (issue_conditions_in desc.now d n (part_of begun self.now)) }
     {
         match self.next_request(desc, d) {
-            Some((number, _)) if number == n => self.barred_by(desc, d, begun),
+            Some(request) if request.0 == n => self.barred_for(desc, d, begun, request),
             _ => Some(Rule::Turn),
         }
     }
@@ -210,9 +220,24 @@ impl Engine {
         }
     }
 
+    /// The number of the request that may be issued now, exactly where no rule bars the next issue. `begun` says that
+    /// Begin, Abort or Resume was made.
     #[tactic(auto, using(crate::proofs::Turns::turn_of_unbarred))]
-    /// The number of the request that may be issued now, exactly where the three conditions of an issue hold; else what
-    /// can be seen of the device, with the first rule that is broken. `begun` says that Begin, Abort or Resume was made.
+    pub fn next_to_issue(&self, desc: &Desc, d: DeviceId, begun: bool) -> Option<u32>
+        requires valid { IsValid desc.now }
+        requires kept { EngineKept desc.now d self.now }
+        ensures number { IfSome result (λ n. first_number (unissued_in self.now) ≡ Some n) }
+        ensures turn { IfSome result (λ n. is_next_to_issue_in desc.now d n (part_of begun self.now) ≡ true) }
+        ensures allowed { IfSome result (λ _. barred_by desc.now d begun self.now ≡ None) }
+        ensures barred { IfNone result (is_some (barred_by desc.now d begun self.now) ≡ true) }
+    {
+        match self.next_request(desc, d) {
+            Some(request) if self.barred_for(desc, d, begun, request).is_none() => Some(request.0),
+            _ => None,
+        }
+    }
+
+    /// The same, but that where a rule bars it the answer is what can be seen of the device, with the first rule that does.
     pub fn may_issue(&self, desc: &Desc, d: DeviceId, begun: bool) -> Result<u32, Blocked>
         requires valid { IsValid desc.now }
         requires kept { EngineKept desc.now d self.now }
@@ -221,9 +246,9 @@ impl Engine {
         ensures turn { IfOk result (λ n. is_next_to_issue_in desc.now d n (part_of begun self.now) ≡ true) }
         ensures look { IfErr result (λ blocked. blocked.0 ≡ look_in desc.now d begun self.now) }
     {
-        match self.next_request(desc, d) {
-            Some((number, _)) if self.barred_by(desc, d, begun).is_none() => Ok(number),
-            _ => Err(Blocked(self.look(desc, d, begun))),
+        match self.next_to_issue(desc, d, begun) {
+            Some(number) => Ok(number),
+            None => Err(Blocked(self.look(desc, d, begun))),
         }
     }
 

@@ -7,9 +7,9 @@ ghost use Rattle.vfm_types.specs.Job.{length_of, place_of};
 ghost use Rattle.vfm_plain.specs.Shape.{Lies};
 ghost use Rattle.vfm_types.specs.Valid.{InRange, IsValid, is_job_in_range};
 ghost use Rattle.vfm_types.specs.Words.{is_barred};
-ghost use Rattle.vfm_device.specs.EngineState.{item_at, judged};
+ghost use Rattle.vfm_device.specs.EngineState.{item_at};
 
-use vfm_types::{Desc, DevShape, DeviceId, Job, MigState, Rule};
+use vfm_types::{Desc, DevShape, DeviceId, Job, MigState};
 
 #[tactic(auto, using(crate::proofs::NextRequest::item_there, crate::proofs::NextRequest::item_beyond))]
 /// The request at a place of these, if there is one.
@@ -77,20 +77,4 @@ pub fn is_allowed(desc: &Desc, d: DeviceId, job: &Job, level: MigState) -> bool
     ensures { result ≡ (is_running level || (is_p2p level && not (is_barred desc.now d job.now))) }
 {
     is_running(level) || is_p2p(level) && !is_barred(desc, d, job)
-}
-
-/// The first rule that is broken of the three of an issue.
-pub fn judged(turn: bool, allowed: bool, start: bool) -> Option<Rule>
-    ensures { result ≡ judged turn allowed start }
-{
-    if !turn {
-        return Some(Rule::Turn);
-    }
-    if !allowed {
-        return Some(Rule::Barred);
-    }
-    if !start {
-        return Some(Rule::Start);
-    }
-    None
 }

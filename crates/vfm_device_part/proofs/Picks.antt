@@ -1,7 +1,8 @@
 -- The allowed steps of a device, one after another.
 use Rattle.std.proofs.Common.{◌≡◌, ℕ, zero, suc, ◌+◌, ◌-◌, ◌<◌, ◌≤◌, ◌==◌, ◌%◌, Bool, true, false, if◌then◌else◌, List, [], ◌∷◌, ◌++◌, length, Option, None, Some, is_none, is_some, unwrap_or, refl, sym, ap, ◌∙◌, arith}
+use Rattle.std.proofs.Math.Nat.{mod-eq_of_lt}
 use Rattle.std.proofs.lemmas.Bool.{false≢true}
-use Rattle.std.proofs.lemmas.List.{length-append}
+use Rattle.std.proofs.lemmas.List.{append_assoc, length-append}
 use Rattle.vfm_types.specs.declared.entry.Entry.{Entry}
 use Rattle.vfm_types.specs.declared.entry.Entry.TheVariants.{Issue, Deliver, Complete}
 use Rattle.vfm_types.specs.Outstanding.{Outstanding, delivered_count, undelivered_count}
@@ -43,16 +44,18 @@ picked_none [] [] (z ∷ zs) pick none = absurd (omega (arith, none))
 picked_none [] (y ∷ ys) zs pick none = absurd (omega (arith, none))
 picked_none (x ∷ xs) ys zs pick none = absurd (omega (arith, none))
 
-pub picked_first : (xs ys zs : List Entry) (pick k n : ℕ) → n ≡ length xs + length ys + length zs → k ≡ pick % n → k < length xs
-    → picked (xs ++ (ys ++ zs)) pick ≡ entry_at xs k
-picked_first xs ys zs pick k n count is within =
-    ap (λ (m : ℕ). entry_at (xs ++ (ys ++ zs)) (pick % m)) (size xs ys zs ∙ sym count) ∙ ap (entry_at (xs ++ (ys ++ zs))) (sym is) ∙ at_front xs (ys ++ zs) k within
-
-pub picked_second : (xs ys zs : List Entry) (pick k n : ℕ) → n ≡ length xs + length ys + length zs → k ≡ pick % n → length xs ≤ k → k < length xs + length ys
-    → picked (xs ++ (ys ++ zs)) pick ≡ entry_at ys (k - length xs)
-picked_second xs ys zs pick k n count is past within =
+pub picked_front : (xs ys zs : List Entry) (pick k n : ℕ) → n ≡ length xs + length ys + length zs → k ≡ pick % n → k < length xs + length ys
+    → picked (xs ++ (ys ++ zs)) pick ≡ entry_at (xs ++ ys) k
+picked_front xs ys zs pick k n count is within =
+    let both = length-append xs ys in
     ap (λ (m : ℕ). entry_at (xs ++ (ys ++ zs)) (pick % m)) (size xs ys zs ∙ sym count) ∙ ap (entry_at (xs ++ (ys ++ zs))) (sym is)
-    ∙ at_back xs (ys ++ zs) k past ∙ at_front ys zs (k - length xs) (omega (arith, past, within))
+    ∙ ap (λ (list : List Entry). entry_at list k) (sym (append_assoc xs ys zs)) ∙ at_front (xs ++ ys) zs k (omega (arith, both, within))
+
+-- a number below how many there are in front is its own remainder
+pub picked_early : (xs ys zs : List Entry) (pick : ℕ) → pick < length xs + length ys → picked (xs ++ (ys ++ zs)) pick ≡ entry_at (xs ++ ys) pick
+picked_early xs ys zs pick within =
+    let low : pick < length xs + length ys + length zs = omega (arith, within) in
+    picked_front xs ys zs pick pick (length xs + length ys + length zs) refl (sym (mod-eq_of_lt low)) within
 
 pub picked_third : (xs ys zs : List Entry) (pick k n : ℕ) → n ≡ length xs + length ys + length zs → k ≡ pick % n → length xs + length ys ≤ k
     → k < n → length zs ≤ 1 → picked (xs ++ (ys ++ zs)) pick ≡ entry_at zs 0

@@ -1,6 +1,6 @@
 //! Which steps of a device are allowed now, and which of them a number picks.
 
-ghost use Rattle.std.specs.Prelude.{◌≡◌, ◌+◌, ◌<◌, ◌≤◌, None, Some, true, is_some, length, IfNone, IfSome};
+ghost use Rattle.std.specs.Prelude.{◌≡◌, ◌+◌, ◌++◌, ◌<◌, ◌≤◌, None, Some, true, is_some, length, IfNone, IfSome};
 ghost use Rattle.vfm_types.specs.Desc.{device_count};
 ghost use Rattle.vfm_types.specs.Valid.{IsValid};
 ghost use Rattle.vfm_plain.specs.IssueRules.{first_number};
@@ -23,19 +23,30 @@ impl DevPart {
         ensures { result ≡ picked (enabled_steps desc.now d self.now) pick }
     {
         let (delivered, waiting) = self.on_bus(desc, d);
+        if pick < delivered + waiting {
+            return self.step_on_bus(d, delivered, pick);
+        }
         let (issue, issues) = self.issue_step(desc, d);
         let count = delivered + waiting + issues;
         if count == 0 {
             return None;
         }
         let k = pick % count;
+        if k < delivered + waiting {
+            return self.step_on_bus(d, delivered, k);
+        }
+        issue
+    }
+
+    // the completion or delivery at place k of those that are allowed, where so many are completions
+    fn step_on_bus(&self, d: DeviceId, delivered: u32, k: u32) -> Option<Entry>
+        requires { delivered ≡ length (completions d self.now.requests) }
+        ensures { result ≡ entry_at (completions d self.now.requests ++ deliveries d self.now.requests) k }
+    {
         if k < delivered {
             return self.completion_at(d, k);
         }
-        if k < delivered + waiting {
-            return self.delivery_at(d, k - delivered);
-        }
-        issue
+        self.delivery_at(d, k - delivered)
     }
 
     // how many completions and how many deliveries are allowed
@@ -103,6 +114,6 @@ impl DevPart {
         ensures barred { IfNone result (is_some (issue_barred_in desc.now d self.now) ≡ true) }
     {
         let freely = self.may_issue_freely();
-        self.engine.may_issue(desc, d, freely).ok()
+        self.engine.next_to_issue(desc, d, freely)
     }
 }

@@ -19,7 +19,8 @@ use Rattle.vfm_quiet.specs.declared.want.Want.TheVariants.{Do, Done, Wait}
 use Rattle.vfm_quiet.specs.Order.{next_want}
 use Rattle.vfm_order.specs.Coordinator.{AllIdle, is_coordinators}
 use Rattle.vfm_order.specs.LookAfter.{look_after}
-use Rattle.vfm_order.proofs.Motion.{idle_moves}
+use Rattle.vfm_order.proofs.Motion.{rest_moves}
+use Rattle.vfm_order.proofs.Still.{idle_rests}
 use Rattle.vfm_order.proofs.Wants.{want_made}
 use Rattle.vfm_endings.specs.Following.{ComesToEnd, Follows}
 
@@ -53,7 +54,7 @@ wanted D past n made valid follows legal idle next = by (next_want D (look_after
           done = is;
           few = omega (arith, all, length-append made past);
         }
-    by Wait is = absurd (idle_moves D (made ++ past) n valid legal idle is)
+    by Wait is = absurd (rest_moves D (made ++ past) n valid legal (idle_rests D (made ++ past) idle) is)
     by (Do entry) is = next entry is
 
 -- with so much room left

@@ -20,6 +20,7 @@ use vfm_types::{Desc, Entry};
 /// where a condition is false, with the first rule that is broken; all parts are then as before.
 ///
 /// The entry is none of Issue, Deliver, Complete and Copy.
+#[inline(never)]
 pub fn step_lead(
     desc: &Desc,
     lead: &mut LeadPart,

@@ -2,7 +2,7 @@
 #![tactic(auto)]
 
 ghost use Rattle.std.specs.Prelude.{◌≡◌, ◌⊎◌, ℕ, [], None, map, is_some, string_bytes, slice_index_or, IsTrue, IsFalse};
-ghost use Rattle.vfm_top.specs.declared.status.Status.TheVariants.{Printed, WriteFault};
+ghost use Rattle.vfm_status.specs.declared.status.Status.TheVariants.{Printed, WriteFault};
 ghost use Rattle.vfm_outside.specs.Tells.{sink_tells, WiresTell};
 ghost use Rattle.vfm_top.specs.Answers.{Ends, Promises};
 ghost use Rattle.vfm_main.specs.Own.{is_own, call_over_files};
@@ -25,6 +25,7 @@ const HELP: &str = "\
 vfmig: migrates a described machine with its devices, and prints what happened
 
 vfmig run FILE             runs the machine that FILE describes, moves it and prints the report
+vfmig audit FILE REPORT    audits REPORT as the report of a run of the machine that FILE describes
 vfmig paths FROM TO FLAGS  prints the path between two device states, such as RUNNING and STOP_COPY,
                            for a device with FLAGS 1, 3, 5 or 7
 vfmig --help               prints this
@@ -90,14 +91,15 @@ fn print_text<S: Sink>(text: &str, out: &mut S) -> Status
 }
 
 /// Does what the words ask for, with files and standard output. All but the program's own words go to the top call.
-/// Its files and its output show no bytes, and how many reads and writes failed is seen by nobody but the call.
+/// Its files and its output show no bytes, and how many reads and writes failed is seen by nobody but the call. The first
+/// file is the description's, the second the report's.
 fn answer<H: Threads + Wait + Sync + Files + Print + Alloc<A = Global>>(
     rt: &H,
     words: &[String],
 ) -> Status
     ensures own { IsTrue (is_own (map string_bytes words.now)) → (result ≡ Printed) ⊎ (result ≡ WriteFault) }
-    ensures handed { IsFalse (is_own (map string_bytes words.now)) → (wires : WiresTell) × (reads writes : ℕ)
-        × Promises (call_over_files (map string_bytes words.now) wires reads writes result) }
+    ensures handed { IsFalse (is_own (map string_bytes words.now)) → (wires : WiresTell) × (reads report_reads writes : ℕ)
+        × Promises (call_over_files (map string_bytes words.now) wires reads report_reads writes result) }
 {
     let mut out = OutSink::of(rt);
     if let Some(text) = own_text(words) {

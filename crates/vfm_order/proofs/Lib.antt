@@ -9,6 +9,7 @@ pub mod Passes
 pub mod Outward
 pub mod Whole
 pub mod Wants
+pub mod Still
 pub mod StagedLooks
 pub mod Motion
 pub mod SameLooks

@@ -1,7 +1,6 @@
--- Where nothing is pending or outstanding some line has something that can be made.
-use Rattle.std.proofs.Common.{◌≡◌, ◌≢◌, ℕ, zero, suc, ◌+◌, ◌<◌, ◌==◌, ◌&&◌, ◌||◌, not, Bool, true, false, nat_lt, nat_le, if◌then◌else◌, List, [], ◌++◌, length, Option, Some, None, is_none, is_some, unwrap_or, refl, ap, sym, ◌∙◌, subst, arith, eq-eqb, eqb-true}
-use Rattle.std.proofs.lemmas.Bool.{and_from, and_parts, or_left, or_right, or_parts, not-true, not-false, true≢false, false≢true}
-use Rattle.std.proofs.lemmas.List.{nil_from_length}
+-- Where the devices are at rest some line has something that can be made.
+use Rattle.std.proofs.Common.{◌≡◌, ◌≢◌, ℕ, zero, suc, ◌+◌, ◌<◌, ◌==◌, ◌&&◌, ◌||◌, not, Bool, true, false, nat_lt, nat_le, if◌then◌else◌, List, ◌++◌, Option, Some, None, is_none, is_some, unwrap_or, refl, ap, sym, ◌∙◌, subst, arith, eq-eqb}
+use Rattle.std.proofs.lemmas.Bool.{and_from, or_left, or_right, or_parts, not-true, not-false, true≢false, false≢true}
 use Rattle.vfm_types.specs.declared.desc.Desc.{Desc}
 use Rattle.vfm_types.specs.declared.look.DevLook.{DevLook}
 use Rattle.vfm_types.specs.declared.entry.Entry.{Entry}
@@ -10,8 +9,6 @@ use Rattle.vfm_types.specs.declared.state.MigState.{MigState}
 use Rattle.vfm_types.specs.declared.state.MigState.TheVariants.{Error, Stop, Running, StopCopy, Resuming, RunningP2p, PreCopy, PreCopyP2p}
 use Rattle.vfm_types.specs.State.{has_p2p, has_pre_copy}
 use Rattle.vfm_types.specs.Desc.{device_count, shape_at}
-use Rattle.vfm_types.specs.Machine.{device_of}
-use Rattle.vfm_types.specs.Deliveries.{machine_of}
 use Rattle.vfm_types.specs.Outstanding.{Outstanding, complete_count, outstanding_of}
 use Rattle.vfm_types.specs.Paths.{same_state, supports, next_towards}
 use Rattle.vfm_types.specs.Phases.{is_begun, is_joint, is_failed, is_last_begun, pass_count}
@@ -35,7 +32,7 @@ use Rattle.vfm_quiet.specs.declared.want.Want.TheVariants.{Do, Wait, Done}
 use Rattle.vfm_quiet.specs.Seen.{seen, sees_ready, sees_all_in, sees_quiet, sees_reported, sees_warm, sees_decided, next_seen, arc_or_fail, may_go_home, may_enter_pre_copy, may_be_held, may_go_out, way_out_of}
 use Rattle.vfm_quiet.specs.Order.{do_for, part_of_pass, is_abort_asked, next_want, way_home, beginning, rest_of_pass, first_pass, another_pass, way_out, last_pass}
 use Rattle.vfm_order.specs.LookAfter.{is_over, block_due, look_after, staged_look_after}
-use Rattle.vfm_order.specs.Coordinator.{AllIdle}
+use Rattle.vfm_order.proofs.Still.{IsAtRest}
 use Rattle.vfm_order.proofs.Numbers.{least_fails}
 use Rattle.vfm_order.proofs.OnWay.{on_way}
 use Rattle.vfm_order.proofs.Seeing.{seen_after, ready_after, all_in_after, quiet_after, warm_after, out_after}
@@ -197,19 +194,13 @@ module _ (D : Desc) (past : List Entry) (n : ℕ) (valid : IsValid D) (legal : I
           refl
 
   -- one device that isn't stopped, and has nothing outstanding, may be held or take its arc
-  nothing : AllIdle D past → (d : ℕ) → d < device_count D → outstanding_of D d past ≡ []
-  nothing idle d inside =
-      nil_from_length (outstanding_of D d past)
-      (eqb-true (length (outstanding_of D d past)) 0
-      (and_parts (is_nothing (device_of (machine_of D past) d).pending) (is_nothing (outstanding_of D d past)) (idle d inside)).1)
-
-  ready_for : AllIdle D past → (d : ℕ) → d < device_count D → (to : MigState) → next_arc D d past ≡ to
+  ready_for : IsAtRest D past → (d : ℕ) → d < device_count D → (to : MigState) → next_arc D d past ≡ to
       → quiet_enough (state_of d past) to false (is_quiet D past) (none_stopped D past) ≡ true → is_ready D d past ≡ true
-  ready_for idle d inside to arc quiet =
+  ready_for rests d inside to arc quiet =
       subst (λ (s : MigState). is_quiet_for_arc D d s past ≡ true) (sym arc)
       (subst (λ (requests : List Outstanding).
       quiet_enough (state_of d past) to (has_barred D d requests) (is_nothing requests && is_quiet D past) (none_stopped D past) ≡ true)
-      (sym (nothing idle d inside)) quiet)
+      (sym (rests.empty d inside)) quiet)
 
   out_may : (d : ℕ) → d < device_count D → (is_some (hold_of d past) || same_state (state_of d past) Stop) ≡ true → is_ready D d past ≡ true
       → may_go_out (look_after D past) d ≡ true
@@ -243,10 +234,10 @@ module _ (D : Desc) (past : List Entry) (n : ℕ) (valid : IsValid D) (legal : I
       || same_state (next_towards (state_of d past) StopCopy (shape_at D d).flags) StopCopy) || b) (quiet_after D past valid)
       ∙ quiet)
 
-  awake_moves : AllIdle D past → is_over past ≡ false → (d : ℕ) → d < device_count D → is_stopped (state_of d past) ≡ false → Holdable d
+  awake_moves : IsAtRest D past → is_over past ≡ false → (d : ℕ) → d < device_count D → is_stopped (state_of d past) ≡ false → Holdable d
       → quiet_enough (state_of d past) (next_towards (state_of d past) StopCopy (shape_at D d).flags) false (is_quiet D past) (none_stopped D past) ≡ true
       → may_be_held D (look_after D past) d ≡ false → may_go_out (look_after D past) d ≡ false → ⊥
-  awake_moves idle open_ d inside awake holdable quiet unheld unmoved = go (hold_of d past) refl
+  awake_moves rests open_ d inside awake holdable quiet unheld unmoved = go (hold_of d past) refl
     where
       go : (hold : Option MigState) → hold_of d past ≡ hold → ⊥
       go None e = true≢false (sym (hold_may d inside e awake holdable) ∙ unheld)
@@ -257,7 +248,7 @@ module _ (D : Desc) (past : List Entry) (n : ℕ) (valid : IsValid D) (legal : I
           ∙ ap (λ (h : Option MigState). unwrap_or h (next_towards (state_of d past) StopCopy (shape_at D d).flags)) e ∙ to_next in
           let way : (is_some (hold_of d past) || same_state (state_of d past) Stop) ≡ true =
           ap (λ (h : Option MigState). is_some h || same_state (state_of d past) Stop) e in
-          true≢false (sym (out_may d inside way (ready_for idle d inside (next_towards (state_of d past) StopCopy (shape_at D d).flags) arc quiet)) ∙ unmoved)
+          true≢false (sym (out_may d inside way (ready_for rests d inside (next_towards (state_of d past) StopCopy (shape_at D d).flags) arc quiet)) ∙ unmoved)
 
   -- of the stopped states, the one that is left
   in_stop : (state : MigState) → is_stopped state ≡ true → same_state state StopCopy ≡ false → same_state state Resuming ≡ false → same_state state Stop ≡ true
@@ -270,10 +261,10 @@ module _ (D : Desc) (past : List Entry) (n : ℕ) (valid : IsValid D) (legal : I
   in_stop PreCopy stopped away giving = absurd (false≢true stopped)
   in_stop PreCopyP2p stopped away giving = absurd (false≢true stopped)
 
-  some_moves : AllIdle D past → is_over past ≡ false → ((d : ℕ) → d < device_count D → may_be_held D (look_after D past) d ≡ false)
+  some_moves : IsAtRest D past → is_over past ≡ false → ((d : ℕ) → d < device_count D → may_be_held D (look_after D past) d ≡ false)
       → ((d : ℕ) → d < device_count D → may_go_out (look_after D past) d ≡ false) → all_stand_in D StopCopy past ≡ false → ⊥
   unfolding Holdable
-  some_moves idle open_ unheld unmoved some =
+  some_moves rests open_ unheld unmoved some =
       by_bool (is_quiet D past) (λ b. is_quiet D past ≡ b → ⊥)
       (λ quiet e.
       let found = all_fails (device_count D) (λ d. same_state (state_of d past) StopCopy) some in
@@ -290,7 +281,7 @@ module _ (D : Desc) (past : List Entry) (n : ℕ) (valid : IsValid D) (legal : I
       true≢false (sym (out_may d inside way ready) ∙ unmoved d inside))
       (λ awake f.
       let next = next_towards (state_of d past) StopCopy (shape_at D d).flags in
-      awake_moves idle open_ d inside f (or_right (not (same_state next Stop || same_state next StopCopy)) (is_quiet D past) e)
+      awake_moves rests open_ d inside f (or_right (not (same_state next Stop || same_state next StopCopy)) (is_quiet D past) e)
       (subst (λ (b : Bool). quiet_enough (state_of d past) next false b (none_stopped D past) ≡ true) (sym e)
       (out_quiet (state_of d past) (shape_at D d).flags (none_stopped D past) f (known d inside)))
       (unheld d inside) (unmoved d inside))
@@ -305,13 +296,13 @@ module _ (D : Desc) (past : List Entry) (n : ℕ) (valid : IsValid D) (legal : I
       let several : 1 < device_count D = omega arith in
       let enter = enters (state_of d past) (shape_at D d).flags (none_stopped D past) found.fails (known d inside) (several_p2p D valid several d inside)
       (on_way D valid past legal d inside).0 in
-      awake_moves idle open_ d inside (or_parts (is_p2p (state_of d past)) (is_stopped (state_of d past)) found.fails).1
+      awake_moves rests open_ d inside (or_parts (is_p2p (state_of d past)) (is_stopped (state_of d past)) found.fails).1
       (or_left (not (same_state next Stop || same_state next StopCopy)) (is_quiet D past) (ap not enter.goes_on))
       (enter.quiet (is_quiet D past)) (unheld d inside) (unmoved d inside))
       refl
 
-  out_moves : AllIdle D past → is_over past ≡ false → way_out D (look_after D past) ≢ Wait
-  out_moves idle open_ =
+  out_moves : IsAtRest D past → is_over past ≡ false → way_out D (look_after D past) ≢ Wait
+  out_moves rests open_ =
       let look = look_after D past in
       for_moves (λ d. Hold d (next_seen D look d StopCopy)) (least_below (device_count D) (λ d. may_be_held D look d))
       (do_for (λ d. arc_or_fail D look d (way_out_of look d)) (least_below (device_count D) (λ d. may_go_out look d))
@@ -323,17 +314,16 @@ module _ (D : Desc) (past : List Entry) (n : ℕ) (valid : IsValid D) (legal : I
       by_bool (sees_all_in look StopCopy) (λ b. sees_all_in look StopCopy ≡ b → (if b then Do Joint else Wait) ≢ Wait) (λ all e. do_waits Joint)
       (λ some e.
       absurd
-      (some_moves idle open_ (λ d inside. least_fails (device_count D) (λ k. may_be_held D look k) d no_holds inside)
+      (some_moves rests open_ (λ d inside. least_fails (device_count D) (λ k. may_be_held D look k) d no_holds inside)
       (λ d inside. least_fails (device_count D) (λ k. may_go_out look k) d no_arcs inside) (sym (all_in_after D past StopCopy valid) ∙ e)))
       refl))
 
-  start_moves : AllIdle D past → beginning D (look_after D past) ≢ Wait
-  start_moves idle =
+  start_moves : IsAtRest D past → is_begun past ≡ false → is_over past ≡ false → beginning D (look_after D past) ≢ Wait
+  start_moves rests unbegun open_ =
       let look = look_after D past in
       let warm : all_below (device_count D) (λ d. sees_warm D look d) ≡ true =
       warm_after D past valid
-      ∙ all_pass (device_count D) (λ d. nat_le D.begin (complete_count d past) || is_idle D d past)
-      (λ d inside. or_right (nat_le D.begin (complete_count d past)) (is_idle D d past) (idle d inside)) in
+      ∙ all_pass (device_count D) (λ d. nat_le D.begin (complete_count d past) || is_idle D d past) (rests.warm unbegun open_) in
       subst (λ (b : Bool). (if b then Do Begin else Wait) ≢ Wait) (sym warm) (do_waits Begin)
 
   -- in a pass something is due
@@ -367,9 +357,9 @@ module _ (D : Desc) (past : List Entry) (n : ℕ) (valid : IsValid D) (legal : I
       let look = look_after D past in
       for_moves (λ d. arc_or_fail D look d PreCopy) (least_below (device_count D) (λ d. may_enter_pre_copy D look d)) (Do (Pass 1)) (λ none. do_waits (Pass 1))
 
-  pub idle_moves : AllIdle D past → next_want D (look_after D past) n ≢ Wait
+  pub rest_moves : IsAtRest D past → next_want D (look_after D past) n ≢ Wait
   unfolding from_line
-  idle_moves idle =
+  rest_moves rests =
       let look = look_after D past in
       let P : Want → Type 0 = λ want. want ≢ Wait in
       let rest : ℕ → List (Bool × Want) = from_line D past n valid legal in
@@ -379,7 +369,7 @@ module _ (D : Desc) (past : List Entry) (n : ℕ) (valid : IsValid D) (legal : I
       (λ unfailed.
       line P (is_abort_asked look n) (Do Abort) (rest 3) (λ told. do_waits Abort)
       (λ untold.
-      line P (not (is_begun past)) (beginning D look) (rest 4) (λ unbegun. start_moves idle)
+      line P (not (is_begun past)) (beginning D look) (rest 4) (λ unbegun. start_moves rests (not-true (is_begun past) unbegun) open_)
       (λ begun.
       line P (not (is_no_pass_open D past)) (rest_of_pass look) (rest 5) (λ opened. pass_moves open_ (not-true (is_no_pass_open D past) opened))
       (λ closed.
@@ -387,7 +377,7 @@ module _ (D : Desc) (past : List Entry) (n : ℕ) (valid : IsValid D) (legal : I
       (λ later.
       line P (not (is_joint past) && not (sees_decided D look)) (another_pass look) (rest 7) (λ more. another_moves)
       (λ enough.
-      line P (not (is_joint past)) (way_out D look) (rest 8) (λ before. out_moves idle open_)
+      line P (not (is_joint past)) (way_out D look) (rest 8) (λ before. out_moves rests open_)
       (λ joint.
       line P (not (is_last_begun past)) (last_pass look) (rest 9) (λ unlast. last_moves)
       (λ last. done_waits)))))))))

@@ -46,6 +46,10 @@ pub record IsStuck (D : Desc) (past : List Entry) (abort_after : ℕ) : Type 0 w
 abbrev pub AllIdle : Desc → List Entry → Type 0
 AllIdle D past = (d : ℕ) → d < device_count D → IsTrue (is_idle D d past)
 
+-- no request can move: none of the entries of requests may be made
+abbrev pub AllStill : Desc → List Entry → Type 0
+AllStill D past = (entry : Entry) → is_coordinators entry ≡ false → MayMake D past entry → ⊥
+
 -- A destination's list stands on a source's after which the machine may be taken over, and both together are legal.
 pub record IsStaged (D : Desc) (before mine : List Entry) : Type 0 where
   pub valid : IsValid D

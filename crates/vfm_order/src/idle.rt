@@ -8,12 +8,14 @@ ghost use Rattle.vfm_plain.specs.Legal.{IsLegal};
 ghost use Rattle.vfm_quiet.specs.declared.want.Want.TheVariants.{Wait};
 ghost use Rattle.vfm_quiet.specs.Order.{next_want};
 ghost use Rattle.vfm_order.specs.LookAfter.{is_over, look_after, staged_look_after};
-ghost use Rattle.vfm_order.specs.Coordinator.{AllIdle, IsStaged};
+ghost use Rattle.vfm_order.specs.Coordinator.{AllIdle, AllStill, IsStaged};
 
-/// With nothing pending or outstanding anywhere the order doesn't wait. On the way home it never does, nor at a
+/// Where no request can move the order doesn't wait; so it doesn't with nothing pending or outstanding anywhere. On the way home it never does, nor at a
 /// destination.
 pub fn idle_moves_on()
     ensures idle { (D : Desc) (past : List Entry) (abort_after : ℕ) → IsValid D → IsLegal D past → AllIdle D past
+        → next_want D (look_after D past) abort_after ≢ Wait }
+    ensures still { (D : Desc) (past : List Entry) (abort_after : ℕ) → IsValid D → IsLegal D past → AllStill D past
         → next_want D (look_after D past) abort_after ≢ Wait }
     ensures home { (D : Desc) (past : List Entry) (abort_after : ℕ) → IsValid D → IsLegal D past → IsTrue (is_over past)
         → next_want D (look_after D past) abort_after ≢ Wait }

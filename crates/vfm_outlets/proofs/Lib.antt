@@ -1,5 +1,9 @@
 pub mod Sending
 pub mod Begun
+pub mod Faring
 pub mod Fitting
 pub mod Given
+pub mod Keeping
+pub mod Prefixes
 pub mod Shares
+pub mod Whole

@@ -83,3 +83,10 @@ untouched_more {L} P before senders now k untouched one j d above =
     ap (λ (xs : List (Sender L)). slice_index_or xs j d) one.place
     ∙ at_other senders k j one.sender d (λ e. omega (arith, above, e))
     ∙ untouched j d (omega (arith, above))
+
+-- the same of other names for both lists
+pub each_named : {L : Type 0} (P : Sender L → Sender L → Type 0) (before other_before now other_now : List (Sender L)) → before ≡ other_before
+    → now ≡ other_now → EachChanged P before now (length before) → EachChanged P other_before other_now (length other_before)
+each_named {L} P before other_before now other_now was is each =
+    subst (λ (xs : List (Sender L)). EachChanged P xs other_now (length xs)) was
+    (subst (λ (xs : List (Sender L)). EachChanged P before xs (length before)) is each)

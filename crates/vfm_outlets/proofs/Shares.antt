@@ -1,5 +1,5 @@
 -- One record more in the shares of the channels.
-use Rattle.std.proofs.Common.{◌≡◌, ◌∙◌, refl, sym, ap, ap₂, ℕ, zero, suc, ◌+◌, ◌<◌, ◌≤◌, ◌==◌, true, false, if◌then◌else◌, Option, None, List, [], ◌∷◌, ◌++◌, length, slice_index_or, slice_set, arith, append-nil, eqb-true, eq-eqb}
+use Rattle.std.proofs.Common.{◌≡◌, ◌∙◌, refl, sym, ap, ap₂, subst, ℕ, zero, suc, ◌+◌, ◌<◌, ◌≤◌, ◌==◌, true, false, if◌then◌else◌, Option, None, List, [], ◌∷◌, ◌++◌, length, slice_index_or, slice_set, arith, append-nil, eqb-true, eq-eqb}
 use Rattle.std.proofs.lemmas.Bool.{ne_eqb, false≢true}
 use Rattle.std.proofs.lemmas.List.{get_or-set_same, get_or-set_other}
 use Rattle.vfm_types.specs.declared.desc.Desc.{Desc}
@@ -15,10 +15,11 @@ use Rattle.std.proofs.lemmas.List.{length-map}
 use Rattle.vfm_packet.specs.Packet.{Packet}
 use Rattle.vfm_record.specs.Packing.{record_packet}
 use Rattle.vfm_send.specs.Lanes.{lane}
-use Rattle.vfm_send.specs.Sends.{given}
+use Rattle.vfm_send.specs.Sends.{given, SentPrefix}
 use Rattle.vfm_streams.specs.Packets.{kind_of}
 use Rattle.vfm_outlets.specs.declared.outlets.Outlets.{Outlets}
-use Rattle.vfm_outlets.specs.Carrying.{Carries, all_given, share_of, with_shares}
+use Rattle.vfm_outlets.specs.Carrying.{Carries, all_given, links_of, share_of, with_shares}
+use Rattle.vfm_outlets.proofs.Prefixes.{prefix_longer}
 
 -- a record on channel k, and one on another
 share_with : (D : Desc) (x : Sent) (all : List Sent) (k : ℕ) → lane_of D x ≡ k → share_of D (x ∷ all) k ≡ share_of D all k ++ packet_bytes (packet_of D x)
@@ -99,10 +100,11 @@ pub carries_more : {L : Type 0} (sent : L → Option (List ℕ)) (D : Desc) (sta
     → k ≡ lane stream (slice_index_or old.counts stream 0) (length old.senders.items) → k < length old.senders.items
     → all_given sent new
     ≡ slice_set (all_given sent old) k (with_appended (slice_index_or (all_given sent old) k None) (packet_bytes (next_packet old stream r)))
-    → length new.senders.items ≡ length old.senders.items → new.version ≡ old.version → new.session ≡ old.session
+    → length new.senders.items ≡ length old.senders.items → links_of new ≡ links_of old
+    → new.version ≡ old.version → new.session ≡ old.session
     → new.counts ≡ slice_set old.counts stream (slice_index_or old.counts stream 0 + 1)
     → Carries sent D starts (push stream r all) new
-carries_more sent D starts all old new stream r k carried few size on inside put same version session counted =
+carries_more {L} sent D starts all old new stream r k carried few size on inside put same links version session counted =
     let x : Sent = record { stream = stream; index = length (records_of stream all); says = r } in
     let index : slice_index_or old.counts stream 0 ≡ length (records_of stream all) = carried.counts stream few in
     let packet : next_packet old stream r ≡ packet_of D x =
@@ -121,5 +123,11 @@ carries_more sent D starts all old new stream r k carried few size on inside put
           ∙ ap₂ (λ (gs : List (Option (List ℕ))) (p : Packet). slice_set gs k (with_appended (slice_index_or gs k None) (packet_bytes p)))
           carried.given packet
           ∙ sym (shares_more D x all 0 k starts (on_lane ∙ omega arith) (omega (arith, inside, many)));
+      begun = λ j link within.
+          subst (λ (ls : List L). SentPrefix (slice_index_or starts j None) (sent (slice_index_or ls j link)) (share_of D (x ∷ all) j)) (sym links)
+          (subst (λ (bytes : List ℕ). SentPrefix (slice_index_or starts j None) (sent (slice_index_or (links_of old) j link)) bytes)
+          (sym (lane_grows D j (x ∷ []) all))
+          (prefix_longer (slice_index_or starts j None) (sent (slice_index_or (links_of old) j link)) (share_of D all j) (share_of D (x ∷ []) j)
+          (carried.begun j link within)));
       counts = λ s within. ap (λ (cs : List ℕ). slice_index_or cs s 0) counted ∙ counts_more stream r all old.counts size few carried.counts s within;
     }

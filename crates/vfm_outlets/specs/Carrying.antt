@@ -31,14 +31,16 @@ abbrev pub with_shares : Desc → List Sent → ℕ → List (Option (List ℕ))
 with_shares D all k [] = []
 with_shares D all k (start ∷ starts) = with_appended start (share_of D all k) ∷ with_shares D all (k + 1) starts
 
--- The channels of this description carry all of this, newest first, after what they had sent at the start; and how many
--- records of each stream that is.
+-- The channels of this description carry all of this, newest first, after what they had sent at the start, each of which its
+-- link has sent a prefix; and how many records of each stream that is.
 pub record Carries {L : Type 0} (sent : L → Option (List ℕ)) (D : Desc) (starts : List (Option (List ℕ))) (all : List Sent)
     (outlets : Outlets L) : Type 0 where
   pub channels : length outlets.senders.items ≡ D.channels
   pub version : outlets.version ≡ D.version
   pub session : outlets.session ≡ D.session
   pub given : all_given sent outlets ≡ with_shares D all 0 starts
+  pub begun : (k : ℕ) (link : L) → k < D.channels
+      → SentPrefix (slice_index_or starts k None) (sent (slice_index_or (links_of outlets) k link)) (share_of D all k)
   pub counts : (s : ℕ) → s ≤ 8 → slice_index_or outlets.counts s 0 ≡ length (records_of s all)
 
 -- How a channel fares in a call that sends: its flag and its count of what failed to be sent, before and after. It fails only
@@ -48,6 +50,17 @@ pub record Fares (failed_before failed_now : Bool) (before now : ℕ) : Type 0 w
   pub stays : failed_before ≡ true → failed_now ≡ true
   pub fails : failed_now ≡ true → (failed_before ≡ true) ⊎ Rose before now
   pub quiet : failed_now ≡ failed_before → now ≡ before
+
+-- how a sender fared, by its flag and by the count of its link
+abbrev pub SenderFares : {L : Type 0} → (L → ℕ) → Sender L → Sender L → Type 0
+SenderFares failed_out was now = Fares (has_failed was) (has_failed now) (failed_out (link_of was)) (failed_out (link_of now))
+
+-- how each channel fared
+abbrev pub AllFare : {L : Type 0} → (L → ℕ) → Outlets L → Outlets L → Type 0
+AllFare {L} failed_out before now =
+    (k : ℕ) (link : L) → k < length before.senders.items
+    → Fares (slice_index_or (all_failed before) k false) (slice_index_or (all_failed now) k false)
+    (failed_out (slice_index_or (links_of before) k link)) (failed_out (slice_index_or (links_of now) k link))
 
 -- What is answered of the first n channels: the least that has failed; where none has, nothing waits in them.
 abbrev pub FirstFailed : {L : Type 0} → List (Sender L) → ℕ → Option ℕ → Type 0
@@ -70,8 +83,8 @@ pub record OneSent {L : Type 0} (before : List (Sender L)) (k : ℕ) (now : List
   pub flag : failed ≡ has_failed sender
   pub all : failed ≡ false → left sender ≡ []
 
--- what became of a channel that was to be ended: whether it has failed, what its link had sent before and what was left then,
--- what the link has sent now, and whether it is finished
+-- what became of a channel that was to be ended: whether it has failed, what its link had sent at some time before and what
+-- was left to be sent then, what the link has sent now, and whether it is finished
 pub record Ending : Type 0 where
   pub failed : Bool
   pub before : Option (List ℕ)

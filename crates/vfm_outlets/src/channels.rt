@@ -5,8 +5,8 @@ ghost use Rattle.vfm_outside.specs.Told.{with_appended};
 ghost use Rattle.vfm_packet.specs.Header.{IsHeader, carries};
 ghost use Rattle.vfm_packet.specs.Packet.{packet_bytes};
 ghost use Rattle.vfm_send.specs.declared.sender.Sender.{Sender};
-ghost use Rattle.vfm_send.specs.Sends.{given, has_failed, left, link_of};
-ghost use Rattle.vfm_outlets.specs.Carrying.{EachChanged, Ends, Fares, FirstFailed, OneChanged, OneSent, sooner};
+ghost use Rattle.vfm_send.specs.Sends.{given, has_failed, left, link_of, SentPrefix};
+ghost use Rattle.vfm_outlets.specs.Carrying.{EachChanged, Ends, FirstFailed, OneChanged, OneSent, SenderFares, sooner};
 
 use std::alloc::Global;
 use vfm_outside::Link;
@@ -72,8 +72,9 @@ pub fn send_one<L: Link>(senders: &mut [Sender<L>], k: usize) -> bool
     ensures given { map (given L.sent) senders.new ≡ map (given L.sent) senders.old }
     ensures count { length senders.new ≡ length senders.old }
     ensures sent { OneSent senders.old k senders.new result }
-    ensures fares { (d : Sender L) → Fares (has_failed (slice_index_or senders.old k d)) (has_failed (slice_index_or senders.new k d))
-        (L.failed_out (link_of (slice_index_or senders.old k d))) (L.failed_out (link_of (slice_index_or senders.new k d))) }
+    ensures fares { OneChanged (SenderFares L.failed_out) senders.old k senders.new }
+    ensures prefix { OneChanged (λ (was now : Sender L). SentPrefix (L.sent (link_of was)) (L.sent (link_of now)) (left was))
+        senders.old k senders.new }
     ensures received { map (λ (s : Sender L). L.received (link_of s)) senders.new ≡ map (λ (s : Sender L). L.received (link_of s)) senders.old }
     ensures finished { map (λ (s : Sender L). L.finished (link_of s)) senders.new ≡ map (λ (s : Sender L). L.finished (link_of s)) senders.old }
     ensures ended { map (λ (s : Sender L). L.ended (link_of s)) senders.new ≡ map (λ (s : Sender L). L.ended (link_of s)) senders.old }
@@ -89,6 +90,13 @@ pub fn send_each<L: Link>(senders: &mut [Sender<L>]) -> Option<u32>
     ensures failed { FirstFailed senders.new (length senders.old) result }
     ensures given { map (given L.sent) senders.new ≡ map (given L.sent) senders.old }
     ensures count { length senders.new ≡ length senders.old }
+    ensures fares { EachChanged (SenderFares L.failed_out) senders.old senders.new (length senders.old) }
+    ensures prefix { EachChanged (λ (was now : Sender L). SentPrefix (L.sent (link_of was)) (L.sent (link_of now)) (left was))
+        senders.old senders.new (length senders.old) }
+    ensures received { map (λ (s : Sender L). L.received (link_of s)) senders.new ≡ map (λ (s : Sender L). L.received (link_of s)) senders.old }
+    ensures finished { map (λ (s : Sender L). L.finished (link_of s)) senders.new ≡ map (λ (s : Sender L). L.finished (link_of s)) senders.old }
+    ensures ended { map (λ (s : Sender L). L.ended (link_of s)) senders.new ≡ map (λ (s : Sender L). L.ended (link_of s)) senders.old }
+    ensures failed_in { map (λ (s : Sender L). L.failed_in (link_of s)) senders.new ≡ map (λ (s : Sender L). L.failed_in (link_of s)) senders.old }
 {
     let mut least = None;
     for k in 0..senders.len() {
@@ -120,7 +128,7 @@ pub fn end_one<L: Link>(
 ) -> bool
     requires channel { k < length senders.old }
     ensures count { length senders.new ≡ length senders.old }
-    ensures ended { OneChanged (λ (was now : Sender L). Ends abort session version (record {
+    ensures ends { OneChanged (λ (was now : Sender L). Ends abort session version (record {
       failed = has_failed now;
       before = L.sent (link_of was);
       left = left was;
@@ -128,7 +136,9 @@ pub fn end_one<L: Link>(
       finished = L.finished (link_of now);
     })) senders.old k senders.new }
     ensures sent { OneSent senders.old k senders.new result }
+    ensures fares { OneChanged (SenderFares L.failed_out) senders.old k senders.new }
     ensures received { map (λ (s : Sender L). L.received (link_of s)) senders.new ≡ map (λ (s : Sender L). L.received (link_of s)) senders.old }
+    ensures ended { map (λ (s : Sender L). L.ended (link_of s)) senders.new ≡ map (λ (s : Sender L). L.ended (link_of s)) senders.old }
     ensures failed_in { map (λ (s : Sender L). L.failed_in (link_of s)) senders.new ≡ map (λ (s : Sender L). L.failed_in (link_of s)) senders.old }
 {
     senders[k].end(abort, session, version).is_err()
@@ -145,7 +155,7 @@ pub fn end_each<L: Link>(
 ) -> Option<u32>
     requires few { length senders.old ≤ 8 }
     ensures failed { FirstFailed senders.new (length senders.old) result }
-    ensures ended { EachChanged (λ (was now : Sender L). Ends abort session version (record {
+    ensures ends { EachChanged (λ (was now : Sender L). Ends abort session version (record {
       failed = has_failed now;
       before = L.sent (link_of was);
       left = left was;
@@ -153,7 +163,10 @@ pub fn end_each<L: Link>(
       finished = L.finished (link_of now);
     })) senders.old senders.new (length senders.old) }
     ensures count { length senders.new ≡ length senders.old }
+    ensures fares { EachChanged (SenderFares L.failed_out) senders.old senders.new (length senders.old) }
     ensures received { map (λ (s : Sender L). L.received (link_of s)) senders.new ≡ map (λ (s : Sender L). L.received (link_of s)) senders.old }
+    ensures ended { map (λ (s : Sender L). L.ended (link_of s)) senders.new ≡ map (λ (s : Sender L). L.ended (link_of s)) senders.old }
+    ensures failed_in { map (λ (s : Sender L). L.failed_in (link_of s)) senders.new ≡ map (λ (s : Sender L). L.failed_in (link_of s)) senders.old }
 {
     let mut least = None;
     for k in 0..senders.len() {

@@ -32,7 +32,7 @@ pub struct Outlets<L> {
 }
 
 impl<L: Link> Outlets<L> {
-    ghost use Rattle.std.specs.Prelude.{◌≡◌, ◌+◌, ◌<◌, ◌≤◌, [], List, ℕ, Option, false, length, map, replicate, slice_index_or, slice_set, OnOk, OnErr, IfOk, IfErr, IsTrue};
+    ghost use Rattle.std.specs.Prelude.{◌≡◌, ◌+◌, ◌<◌, ◌≤◌, [], List, ℕ, None, Option, false, length, map, replicate, slice_index_or, slice_set, OnOk, OnErr, IfOk, IfErr, IsTrue};
     ghost use Rattle.vfm_types.specs.declared.desc.Desc.{Desc};
     ghost use Rattle.vfm_types.specs.Valid.{IsValid};
     ghost use Rattle.vfm_outside.specs.Told.{with_appended};
@@ -45,7 +45,7 @@ impl<L: Link> Outlets<L> {
     ghost use Rattle.vfm_streams.specs.Packets.{kind_of};
     ghost use Rattle.vfm_send.specs.declared.sender.Sender.{Sender};
     ghost use Rattle.vfm_send.specs.Sends.{has_failed, left, link_of};
-    ghost use Rattle.vfm_outlets.specs.Carrying.{Carries, EachChanged, Ends, FirstFailed, all_failed, links_of};
+    ghost use Rattle.vfm_outlets.specs.Carrying.{AllFare, Carries, EachChanged, Ends, FirstFailed, all_failed, links_of, share_of};
 
     /// The channels of a description over these links, as many as it has, with nothing put. When memory runs out the links
     /// come back.
@@ -81,6 +81,14 @@ impl<L: Link> Outlets<L> {
         ensures carries { (D : Desc) (starts : List (Option (List ℕ))) (all : List Sent) → Carries L.sent D starts all self.old
             → Carries L.sent D starts all self.new }
         ensures failed { FirstFailed self.new.senders.items (length self.old.senders.items) result }
+        // a channel's flag is set only where its link's count of failed sends rose in this call, or its flag was set before
+        ensures fares { AllFare L.failed_out self.old self.new }
+        ensures count { length self.new.senders.items ≡ length self.old.senders.items }
+        // nothing else of the links changes
+        ensures received { map L.received (links_of self.new) ≡ map L.received (links_of self.old) }
+        ensures finished { map L.finished (links_of self.new) ≡ map L.finished (links_of self.old) }
+        ensures ended { map L.ended (links_of self.new) ≡ map L.ended (links_of self.old) }
+        ensures failed_in { map L.failed_in (links_of self.new) ≡ map L.failed_in (links_of self.old) }
     {
         send_each(&mut self.senders)
     }
@@ -90,14 +98,30 @@ impl<L: Link> Outlets<L> {
     /// Answers the least such channel. Takes no memory.
     pub fn end(&mut self, abort: bool) -> Option<u32>
         ensures failed { FirstFailed self.new.senders.items (length self.old.senders.items) result }
-        ensures ended { EachChanged (λ (was now : Sender L). Ends abort self.old.session self.old.version (record {
+        ensures ends { EachChanged (λ (was now : Sender L). Ends abort self.old.session self.old.version (record {
           failed = has_failed now;
           before = L.sent (link_of was);
           left = left was;
           now = L.sent (link_of now);
           finished = L.finished (link_of now);
         })) self.old.senders.items self.new.senders.items (length self.old.senders.items) }
+        // where a channel hasn't failed, its link has sent its share of all that was put and the packet that ends it after what
+        // it had sent at the start, and is finished; else a prefix of that
+        ensures shares { (D : Desc) (starts : List (Option (List ℕ))) (all : List Sent) → Carries L.sent D starts all self.old
+            → (k : ℕ) (link : L) → k < D.channels → Ends abort D.session D.version (record {
+              failed = slice_index_or (all_failed self.new) k false;
+              before = slice_index_or starts k None;
+              left = share_of D all k;
+              now = L.sent (slice_index_or (links_of self.new) k link);
+              finished = L.finished (slice_index_or (links_of self.new) k link);
+            }) }
+        // a channel's flag is set only where its link's count of failed sends rose in this call, or its flag was set before
+        ensures fares { AllFare L.failed_out self.old self.new }
         ensures count { length self.new.senders.items ≡ length self.old.senders.items }
+        // nothing else of the links changes
+        ensures received { map L.received (links_of self.new) ≡ map L.received (links_of self.old) }
+        ensures ended { map L.ended (links_of self.new) ≡ map L.ended (links_of self.old) }
+        ensures failed_in { map L.failed_in (links_of self.new) ≡ map L.failed_in (links_of self.old) }
     {
         let (session, version) = (self.session, self.version);
         end_each(&mut self.senders, abort, session, version)

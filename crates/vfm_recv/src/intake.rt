@@ -72,7 +72,7 @@ impl Intake {
     ghost use Rattle.vfm_packet.specs.Answer.{BeginsWith};
     ghost use Rattle.vfm_packet.specs.Reading.{reading, unfinished, after_end};
     ghost use Rattle.vfm_mesh.specs.declared.fan.Fan.{Fan};
-    ghost use Rattle.vfm_mesh.specs.Rows.{stream_count};
+    ghost use Rattle.vfm_mesh.specs.Rows.{stream_count, fan_rings};
     ghost use Rattle.vfm_recv.specs.declared.channel_end.ChannelEnd.TheVariants as channel_ends;
     ghost use Rattle.vfm_recv.specs.declared.intake.Stage.TheVariants as stages;
     ghost use Rattle.vfm_recv.specs.Handed.{HandsOn};
@@ -136,6 +136,7 @@ impl Intake {
         ensures stands { (came : List ℕ) (before : Fan) → Standing self.old came before fan.old → Standing self.new came before fan.new }
         ensures waiting { IsWaiting self.new }
         ensures streams { stream_count fan.new ≡ stream_count fan.old }
+        ensures rings { fan_rings fan.new ≡ fan_rings fan.old }
         ensures expect { self.new.expect ≡ self.old.expect }
         ensures came { self.new.came ≡ self.old.came }
     {
@@ -164,6 +165,7 @@ impl Intake {
         ensures stands { (came : List ℕ) (before : Fan) → Standing self.old came before fan.old → Standing self.new came before fan.new }
         ensures waiting { IsWaiting self.new }
         ensures streams { stream_count fan.new ≡ stream_count fan.old }
+        ensures rings { fan_rings fan.new ≡ fan_rings fan.old }
         ensures expect { self.new.expect ≡ self.old.expect }
         ensures came { self.new.came ≡ self.old.came }
     {
@@ -202,6 +204,7 @@ impl Intake {
         ensures stands { (came : List ℕ) (before : Fan) → Standing self.old came before fan.old → Standing self.new (came ++ take result bytes.now) before fan.new }
         ensures waiting { IsWaiting self.new }
         ensures streams { stream_count fan.new ≡ stream_count fan.old }
+        ensures rings { fan_rings fan.new ≡ fan_rings fan.old }
         ensures expect { self.new.expect ≡ self.old.expect }
         ensures came { self.new.came ≡ self.old.came + result }
     {
@@ -226,6 +229,7 @@ impl Intake {
         ensures stands { (came : List ℕ) (before : Fan) → Standing self.old came before fan.old → Standing self.new (came ++ take result bytes.now) before fan.new }
         ensures waiting { IsWaiting self.new }
         ensures streams { stream_count fan.new ≡ stream_count fan.old }
+        ensures rings { fan_rings fan.new ≡ fan_rings fan.old }
         ensures expect { self.new.expect ≡ self.old.expect }
         ensures came { self.new.came ≡ self.old.came + result }
     {
@@ -244,6 +248,7 @@ impl Intake {
         ensures stands { (came : List ℕ) (before : Fan) → Standing self.old came before fan.old → Standing self.new (came ++ bytes.now) before fan.new }
         ensures waiting { IsWaiting self.new }
         ensures streams { stream_count fan.new ≡ stream_count fan.old }
+        ensures rings { fan_rings fan.new ≡ fan_rings fan.old }
         ensures expect { self.new.expect ≡ self.old.expect }
         ensures came { self.new.came ≡ self.old.came + length bytes.now }
     {

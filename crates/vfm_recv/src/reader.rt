@@ -72,6 +72,7 @@ impl<L: Link> Reader<L> {
             (seen L.received L.ended L.failed_in (link_of self.new) fan.new) result }
         ensures never_falls { L.failed_in (link_of self.old) ≤ L.failed_in (link_of self.new) }
         ensures streams { stream_count fan.new ≡ stream_count fan.old }
+        ensures rings { fan_rings fan.new ≡ fan_rings fan.old }
         // nothing else changes
         ensures expect { expected_by self.new ≡ expected_by self.old }
         ensures channel { channel_of self.new ≡ channel_of self.old }
@@ -93,6 +94,7 @@ impl<L: Link> Reader<L> {
             (seen L.received L.ended L.failed_in (link_of self.new) fan.new) result }
         ensures never_falls { L.failed_in (link_of self.old) ≤ L.failed_in (link_of self.new) }
         ensures streams { stream_count fan.new ≡ stream_count fan.old }
+        ensures rings { fan_rings fan.new ≡ fan_rings fan.old }
         ensures expect { expected_by self.new ≡ expected_by self.old }
         ensures channel { channel_of self.new ≡ channel_of self.old }
         ensures failed_out { L.failed_out (link_of self.new) ≡ L.failed_out (link_of self.old) }

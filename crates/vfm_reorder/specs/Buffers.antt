@@ -26,6 +26,10 @@ is_put buffer i = nat_lt i buffer.next || is_some (waiting buffer i)
 abbrev pub is_config_put : ReorderBuf → ℕ → Bool
 is_config_put buffer i = if nat_lt i buffer.next then buffer.closed && suc i == buffer.next else is_config_held (waiting buffer i)
 
+-- a config packet was given, and so nothing else will be
+abbrev pub is_closed : ReorderBuf → Bool
+is_closed buffer = buffer.closed
+
 -- a packet can be given
 abbrev pub is_ready : ReorderBuf → Bool
 is_ready buffer = not buffer.closed && is_some (waiting buffer buffer.next)

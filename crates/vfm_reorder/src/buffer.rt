@@ -32,11 +32,13 @@ impl ReorderBuf {
     ghost use Rattle.vfm_packet.specs.Packet.{Packet};
     ghost use Rattle.vfm_streams.specs.Whole.{top, gap_of};
     ghost use Rattle.vfm_reorder.specs.declared.faults.PutFault.TheVariants as put_faults;
-    ghost use Rattle.vfm_reorder.specs.Buffers.{given, waiting, is_put, is_ready, IsAfter, IsPacket, IsHeld, fault_of};
+    ghost use Rattle.vfm_reorder.specs.Buffers.{given, waiting, is_put, is_closed, is_ready, IsAfter, IsPacket, IsHeld, fault_of};
 
     /// A buffer that nothing was put into.
     pub fn of(alloc: Global) -> ReorderBuf
         ensures given { given result ≡ 0 }
+        ensures open { is_closed result ≡ false }
+        ensures ready { is_ready result ≡ false }
         ensures after { IsAfter result [] }
     {
         ReorderBuf {
@@ -55,6 +57,8 @@ impl ReorderBuf {
         ensures doubled { (result ≡ Err (put_faults.Doubled index)) ↔ (is_put self.old index ≡ true) }
         ensures faults { IfErr result (λ fault. (fault ≡ put_faults.Doubled index) ⊎ (fault ≡ put_faults.NoMemory)) }
         ensures given { given self.new ≡ given self.old }
+        ensures closed { is_closed self.new ≡ is_closed self.old }
+        ensures ready { OnErr result (is_ready self.new ≡ is_ready self.old) }
     {
         if u64::from(index) < self.next || self.held.contains_key(&index) {
             return Err(PutFault::Doubled { index });
@@ -70,9 +74,11 @@ impl ReorderBuf {
     pub fn pop_ready(&mut self) -> Option<(u32, bool, Payload)>
         ensures exact { is_some result ≡ is_ready self.old }
         ensures some { IfSome result (λ r. (r.0 ≡ given self.old) × (given self.new ≡ given self.old + 1)) }
+        ensures closed { IfSome result (λ r. is_closed self.new ≡ r.1) }
         ensures packet { IfSome result (λ r. (packets : List Packet) → IsAfter self.old packets
             → IsHeld packets r.0 (record { config = r.1; payload = r.2 })) }
         ensures none { IfNone result ((given self.new ≡ given self.old) × (is_ready self.new ≡ false)) }
+        ensures still { IfNone result (is_closed self.new ≡ is_closed self.old) }
         ensures after { (packets : List Packet) → IsAfter self.old packets → IsAfter self.new packets }
     {
         if self.closed {
@@ -98,6 +104,7 @@ impl ReorderBuf {
         requires { is_ready self ≡ false }
         ensures gap { (packets : List Packet) → IsAfter self packets → gap_of packets ≡ fault_of result }
         ensures count { IfOk result (λ n. (packets : List Packet) → IsAfter self packets → top packets ≡ n) }
+        ensures given { IfOk result (λ n. (n ≡ given self) × (is_closed self ≡ true)) }
     {
         if self.closed {
             return self.finish_closed();
@@ -110,6 +117,7 @@ impl ReorderBuf {
         requires { self.closed ≡ true }
         ensures gap { (packets : List Packet) → IsAfter self packets → gap_of packets ≡ fault_of result }
         ensures count { IfOk result (λ n. (packets : List Packet) → IsAfter self packets → top packets ≡ n) }
+        ensures given { IfOk result (λ n. n ≡ given self) }
     {
         match first_index(&self.held) {
             Some(index) => Err(Gap::Past { index }),

@@ -12,6 +12,7 @@ mod sender;
 mod sending;
 
 pub use lanes::lane;
+pub use mark::Mark;
 pub use sender::Sender;
 pub use sending::send_bytes;
 

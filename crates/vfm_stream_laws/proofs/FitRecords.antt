@@ -51,7 +51,7 @@ page_fits D valid m sound p inside =
 page_more : (D : Desc) (p : ℕ) (bytes : List ℕ) (records : List Record) → IsRecordOf D 0 (Page p bytes) → PassesFit D 0 records → PassesFit D 0 (Page p bytes ∷ records)
 page_more D p bytes records fits before = record { fit = (fits, refl, before.fit); data_ = (refl, before.data_); idle = before.idle }
 
-block_fits : (D : Desc) → IsValid D → (m : Machine) → IsSound D m → (d b : ℕ) → d < device_count D → b < block_count (shape_at D d)
+pub block_fits : (D : Desc) → IsValid D → (m : Machine) → IsSound D m → (d b : ℕ) → d < device_count D → b < block_count (shape_at D d)
     → IsRecordOf D (suc d) (Block b (block_bytes m d b))
 block_fits D valid m sound d b inside_d inside_b =
     let few : bar_bytes (shape_at D d) ≤ 65536 = (all_bars (shape_at D d) (valid.in_range.devices d inside_d).bars).high in

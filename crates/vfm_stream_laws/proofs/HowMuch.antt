@@ -152,6 +152,13 @@ passes_length D (CopyOf p ∷ past) = let before : length (sent_in_passes D past
 passes_length D (BlockOf d b ∷ past) = let before : length (sent_in_passes D past) ≡ copy_count past + reads past = passes_length D past in omega arith
 passes_length D (entry ∷ past) = passes_length D past
 
+-- passes send few records
+pub few_in_passes : (D : Desc) → IsValid D → (past : List Entry) → IsLegal D past → length (sent_in_passes D past) ≤ 82944
+few_in_passes D valid past legal =
+    let copies : copy_count past ≤ 9216 = all_copies D valid past legal in
+    let blocks : reads past ≤ 73728 = few_reads D valid past legal in
+    let long : length (sent_in_passes D past) ≡ copy_count past + reads past = passes_length D past in omega arith
+
 -- ---- what closes the streams
 
 thirteen : (pending : List (ℕ × ℕ)) → length pending ≤ 50000 → length (chunks (length pending) pairs_of_a_record pending) ≤ 13

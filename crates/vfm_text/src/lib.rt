@@ -8,6 +8,7 @@ mod piece;
 mod report;
 mod sink_writer;
 mod state;
+mod view;
 mod write;
 mod writer;
 
@@ -16,6 +17,7 @@ pub use entry::state_name;
 pub use piece::{put_all, put_hex, put_line};
 pub use report::{ReportParts, put_parts};
 pub use sink_writer::SinkWriter;
+pub use view::MachineView;
 pub use write::{state_digest, write_journal, write_state};
 pub use writer::TextWriter;
 

@@ -11,35 +11,38 @@ ghost use Rattle.vfm_plain.specs.StateText.{pages_text, pending_line, counts_lin
 ghost use Rattle.vfm_text.specs.Writers.{Writes};
 
 use crate::piece::{put_hex_line, put_line};
-use crate::{TextBuffer, TextWriter};
+use crate::{MachineView, TextBuffer, TextWriter};
 use itoa::Buffer;
 use vfm_outside::Failed;
-use vfm_plain::Plain;
 use vfm_types::{Desc, DeviceId};
 
 /// Writes the lines of a machine's pages.
-fn put_pages<P: TextWriter>(writer: &mut P, plain: &Plain, desc: &Desc) -> Result<(), Failed>
-    requires { HasShape desc.now plain.now }
-    ensures { Writes P.takes P.stops writer.old writer.new (pages_text 0 plain.now.pages) result }
+fn put_pages<P: TextWriter, M: MachineView>(
+    writer: &mut P,
+    machine: &M,
+    desc: &Desc,
+) -> Result<(), Failed>
+    requires { HasShape desc.now (M.machine machine.now) }
+    ensures { Writes P.takes P.stops writer.old writer.new (pages_text 0 (M.machine machine.now).pages) result }
 {
     for p in 0..desc.pages {
-        put_hex_line(writer, b"page", p, plain.page(p))?;
+        put_hex_line(writer, b"page", p, machine.page(p))?;
     }
     Ok(())
 }
 
 /// Writes the line of a device with its name and its counts.
-fn put_counts<P: TextWriter>(
+fn put_counts<P: TextWriter, M: MachineView>(
     writer: &mut P,
-    plain: &Plain,
+    machine: &M,
     desc: &Desc,
     d: DeviceId,
 ) -> Result<(), Failed>
-    requires shape { HasShape desc.now plain.now }
+    requires shape { HasShape desc.now (M.machine machine.now) }
     requires device { d < device_count desc.now }
-    ensures { Writes P.takes P.stops writer.old writer.new (counts_line d (shape_at desc.now d).name (device_of plain.now d)) result }
+    ensures { Writes P.takes P.stops writer.old writer.new (counts_line d (shape_at desc.now d).name (device_of (M.machine machine.now) d)) result }
 {
-    let (accepted, done, lost) = plain.counts(d);
+    let (accepted, done, lost) = machine.counts(d);
     let name = desc.devices.at(u32::from(d.0)).name.bytes();
     let mut digits = Buffer::new();
     let mut accepted_digits = Buffer::new();
@@ -62,11 +65,15 @@ fn put_counts<P: TextWriter>(
 }
 
 /// Writes the line of a device's buffer.
-fn put_buf<P: TextWriter>(writer: &mut P, plain: &Plain, d: DeviceId) -> Result<(), Failed>
-    requires { d < length plain.now.devices }
-    ensures { Writes P.takes P.stops writer.old writer.new (buf_line d (device_of plain.now d)) result }
+fn put_buf<P: TextWriter, M: MachineView>(
+    writer: &mut P,
+    machine: &M,
+    d: DeviceId,
+) -> Result<(), Failed>
+    requires { d < length (M.machine machine.now).devices }
+    ensures { Writes P.takes P.stops writer.old writer.new (buf_line d (device_of (M.machine machine.now) d)) result }
 {
-    put_hex_line(writer, b"buf", u32::from(d.0), plain.buf(d))
+    put_hex_line(writer, b"buf", u32::from(d.0), machine.buf(d))
 }
 
 /// Writes the line of one BAR of several.
@@ -119,18 +126,18 @@ fn put_sized_bars<P: TextWriter>(
 }
 
 /// Writes the lines of a device's BARs.
-fn put_bars<P: TextWriter>(
+fn put_bars<P: TextWriter, M: MachineView>(
     writer: &mut P,
-    plain: &Plain,
+    machine: &M,
     desc: &Desc,
     d: DeviceId,
 ) -> Result<(), Failed>
-    requires shape { HasShape desc.now plain.now }
+    requires shape { HasShape desc.now (M.machine machine.now) }
     requires device { d < device_count desc.now }
-    ensures { Writes P.takes P.stops writer.old writer.new (bars_text d (shape_at desc.now d).bars (device_of plain.now d).bar) result }
+    ensures { Writes P.takes P.stops writer.old writer.new (bars_text d (shape_at desc.now d).bars (device_of (M.machine machine.now) d).bar) result }
 {
     let sizes = desc.devices.at(u32::from(d.0)).bars.as_slice();
-    put_sized_bars(writer, d, sizes, plain.bar(d))
+    put_sized_bars(writer, d, sizes, machine.bar(d))
 }
 
 /// Writes the line of a pending request.
@@ -170,40 +177,48 @@ fn put_pending<P: TextWriter>(
 }
 
 /// Writes the lines of a device.
-fn put_device<P: TextWriter>(
+fn put_device<P: TextWriter, M: MachineView>(
     writer: &mut P,
-    plain: &Plain,
+    machine: &M,
     desc: &Desc,
     d: DeviceId,
 ) -> Result<(), Failed>
-    requires shape { HasShape desc.now plain.now }
+    requires shape { HasShape desc.now (M.machine machine.now) }
     requires device { d < device_count desc.now }
-    ensures { Writes P.takes P.stops writer.old writer.new (described_text desc.now d (device_of plain.now d)) result }
+    ensures { Writes P.takes P.stops writer.old writer.new (described_text desc.now d (device_of (M.machine machine.now) d)) result }
 {
-    put_counts(writer, plain, desc, d)?;
-    put_buf(writer, plain, d)?;
-    put_bars(writer, plain, desc, d)?;
-    put_pending(writer, d, plain.pending(d))
+    put_counts(writer, machine, desc, d)?;
+    put_buf(writer, machine, d)?;
+    put_bars(writer, machine, desc, d)?;
+    put_pending(writer, d, machine.pending(d))
 }
 
 /// Writes the lines of a machine's devices.
-fn put_devices<P: TextWriter>(writer: &mut P, plain: &Plain, desc: &Desc) -> Result<(), Failed>
-    requires shape { HasShape desc.now plain.now }
+fn put_devices<P: TextWriter, M: MachineView>(
+    writer: &mut P,
+    machine: &M,
+    desc: &Desc,
+) -> Result<(), Failed>
+    requires shape { HasShape desc.now (M.machine machine.now) }
     requires few { device_count desc.now < 256 }
-    ensures { Writes P.takes P.stops writer.old writer.new (devices_text desc.now 0 plain.now.devices) result }
+    ensures { Writes P.takes P.stops writer.old writer.new (devices_text desc.now 0 (M.machine machine.now).devices) result }
 {
     for d in 0..desc.devices.len() as u8 {
-        put_device(writer, plain, desc, DeviceId(d))?;
+        put_device(writer, machine, desc, DeviceId(d))?;
     }
     Ok(())
 }
 
 /// Writes the text of a machine: its pages, then its devices.
-pub fn put_state<P: TextWriter>(writer: &mut P, plain: &Plain, desc: &Desc) -> Result<(), Failed>
-    requires shape { HasShape desc.now plain.now }
+pub fn put_state<P: TextWriter, M: MachineView>(
+    writer: &mut P,
+    machine: &M,
+    desc: &Desc,
+) -> Result<(), Failed>
+    requires shape { HasShape desc.now (M.machine machine.now) }
     requires few { device_count desc.now < 256 }
-    ensures { Writes P.takes P.stops writer.old writer.new (state_text desc.now plain.now) result }
+    ensures { Writes P.takes P.stops writer.old writer.new (state_text desc.now (M.machine machine.now)) result }
 {
-    put_pages(writer, plain, desc)?;
-    put_devices(writer, plain, desc)
+    put_pages(writer, machine, desc)?;
+    put_devices(writer, machine, desc)
 }

@@ -1,41 +1,29 @@
 -- A cause explains its status: nothing else that can be seen brings another.
-use Rattle.std.proofs.Common.{◌≡◌, ◌⊎◌, ℕ, List, Option, Some, None, IfSome, IsTrue, Result, Ok, Err, IsOk, refl, inl, inr}
+use Rattle.std.proofs.Common.{◌≡◌, ◌⊎◌, ℕ, List, Option, Some, None, IfSome, Result, Ok, Err, IsOk, refl, sym, ◌∙◌, ap, inl, inr, subst, length, ◌<◌, ◌≤◌, arith}
 use Rattle.std.specs.Option.{IsSomeAnd}
 use Rattle.vfm_types.specs.declared.desc.Desc.{Desc}
 use Rattle.vfm_types.specs.declared.fault.DescFault.{DescFault}
+use Rattle.vfm_types.specs.declared.entry.Rule.{Rule}
 use Rattle.vfm_types.specs.declared.state.PathFault.{PathFault}
 use Rattle.vfm_types.specs.declared.state.MigState.{MigState}
 use Rattle.vfm_types.specs.Paths.{path_of}
+use Rattle.vfm_plain.specs.Report.{Made, journal}
 use Rattle.vfm_desc.specs.Described.{description_of}
+use Rattle.vfm_report.specs.Reports.{IsReport, IsBadLine}
+use Rattle.vfm_report.proofs.Whole.{clear, one-bad-line, one-report}
+use Rattle.vfm_audit.specs.Audited.{IsAuditOf}
+use Rattle.vfm_audit.specs.declared.fault.Section.{Section}
+use Rattle.vfm_audit.proofs.Audits.{one_result}
+use Rattle.vfm_audit.specs.declared.fault.ReportFault.{ReportFault}
+use Rattle.vfm_audit.specs.declared.fault.ReportFault.TheVariants.{Broken as RuleBroken, StateDiffers as OtherState, NoMemory as OutOfMemory}
 use Rattle.vfm_top.specs.declared.words.Form.{Form}
-use Rattle.vfm_top.specs.declared.words.Form.TheVariants.{Run, Paths}
-use Rattle.vfm_top.specs.declared.status.Status.{Status}
-use Rattle.vfm_top.specs.declared.status.Status.TheVariants.{Moved, Printed, BadWords, BadDescription, ReadFault, NoMemory, PathRefused}
+use Rattle.vfm_top.specs.declared.words.Form.TheVariants.{Run, Audit, Paths}
+use Rattle.vfm_status.specs.declared.status.Status.{Status}
+use Rattle.vfm_status.specs.declared.status.Status.TheVariants.{Moved, Printed, BadWords, BadDescription, ReadFault, NoMemory, PathRefused, Broken, BadReport, StateDiffers}
 use Rattle.vfm_top.specs.Form.{form_of}
-use Rattle.vfm_top.specs.Call.{Call, bytes_read}
-use Rattle.vfm_top.specs.Causes.{is_run, OfPath, HasCause, Brings, YieldsTo, IsExplained}
-
--- words that ask for a move ask for no path
-no_path : (P : Result (List MigState) PathFault → Type 0) (form : Option Form) → IsTrue (is_run form) → OfPath form P → ⊥
-no_path P None run path = path
-no_path P (Some Run) run path = path
-no_path P (Some (Paths from to flags)) run path = cc
-
--- nor are they without a form
-no_none : (form : Option Form) → IsTrue (is_run form) → form ≡ None → ⊥
-no_none None run none = cc
-no_none (Some form) run none = absurd cc
-
-none_no_path : (P : Result (List MigState) PathFault → Type 0) (form : Option Form) → form ≡ None → OfPath form P → ⊥
-none_no_path P None none path = path
-none_no_path P (Some form) none path = absurd cc
-
--- a path is found or refused by one fault
-one_answer : (P Q : Result (List MigState) PathFault → Type 0) {X : Type 0} (form : Option Form)
-    → ((answer : Result (List MigState) PathFault) → P answer → Q answer → X) → OfPath form P → OfPath form Q → X
-one_answer P Q None both p q = absurd p
-one_answer P Q (Some Run) both p q = absurd p
-one_answer P Q (Some (Paths from to flags)) both p q = both (path_of from to flags) p q
+use Rattle.vfm_top.specs.Call.{Call, bytes_read, report_read}
+use Rattle.vfm_top.specs.Sources.{IsShortReport, IsBadReport, most_of_report, status_of_audit}
+use Rattle.vfm_top.specs.Causes.{OfDescription, OfReport, OfBadReport, OfShownBytes, OfShownReport, OfShownBadReport, CauseOf, BringsOf, HasCause, IsUnforeseen, IsExplained}
 
 -- of shown bytes one thing holds
 of_shown : (P Q : Result Desc DescFault → Type 0) {X : Type 0} (bytes : Option (List ℕ))
@@ -44,58 +32,181 @@ of_shown : (P Q : Result Desc DescFault → Type 0) {X : Type 0} (bytes : Option
 of_shown P Q None both p q = absurd q
 of_shown P Q (Some read) both p q = both (description_of read) p q
 
+-- of a shown report too
+of_printed : (P Q : List ℕ → Type 0) {X : Type 0} (bytes : Option (List ℕ)) → ((read : List ℕ) → P read → Q read → X)
+    → IfSome bytes P → IsSomeAnd bytes Q → X
+of_printed P Q None both p q = absurd q
+of_printed P Q (Some read) both p q = both read p q
+
 ok_no_fault : {A E : Type 0} (fault : E) (answer : Result A E) → IsOk answer → answer ≡ Err fault → ⊥
 ok_no_fault fault (Ok x) ok is = absurd cc
 ok_no_fault fault (Err x) ok is = cc
 
+this_no_fault : {A E : Type 0} (x : A) (fault : E) (answer : Result A E) → answer ≡ Ok x → answer ≡ Err fault → ⊥
+this_no_fault x fault answer is other = cc
+
 same_fault : (x y : DescFault) (answer : Result Desc DescFault) → answer ≡ Err x → answer ≡ Err y → BadDescription x ≡ BadDescription y
 same_fault x y answer p q = cc
+
+same_machine : {E : Type 0} (x y : Desc) (answer : Result Desc E) → answer ≡ Ok x → answer ≡ Ok y → x ≡ y
+same_machine x y answer p q = cc
 
 same_refusal : (x y : PathFault) (answer : Result (List MigState) PathFault) → answer ≡ Err x → answer ≡ Err y → PathRefused x ≡ PathRefused y
 same_refusal x y answer p q = cc
 
-exact : (call : Call) (status brought : Status) → HasCause status call → Brings brought call → (status ≡ brought) ⊎ YieldsTo brought status
-exact call Moved Moved c b = inl refl
-exact call ReadFault Moved c b = inr tt
-exact call NoMemory Moved c b = inr tt
-exact call (BadDescription x) Moved c b = absurd (of_shown _ _ (bytes_read call) (λ answer p q. ok_no_fault x answer q p) c.answer b.answer)
-exact call Printed Moved c b = absurd (no_path _ (form_of call.words) b.asked c)
-exact call (PathRefused x) Moved c b = absurd (no_path _ (form_of call.words) b.asked c)
-exact call BadWords Moved c b = absurd (no_none (form_of call.words) b.asked c)
-exact call Moved (BadDescription y) c b = absurd (of_shown _ _ (bytes_read call) (λ answer p q. ok_no_fault y answer p q) c.answer b.answer)
-exact call ReadFault (BadDescription y) c b = inr tt
-exact call NoMemory (BadDescription y) c b = inr tt
-exact call (BadDescription x) (BadDescription y) c b = inl (of_shown _ _ (bytes_read call) (λ answer p q. same_fault x y answer p q) c.answer b.answer)
-exact call Printed (BadDescription y) c b = absurd (no_path _ (form_of call.words) b.asked c)
-exact call (PathRefused x) (BadDescription y) c b = absurd (no_path _ (form_of call.words) b.asked c)
-exact call BadWords (BadDescription y) c b = absurd (no_none (form_of call.words) b.asked c)
-exact call Moved Printed c b = absurd (no_path _ (form_of call.words) c.asked b)
-exact call ReadFault Printed c b = absurd (no_path _ (form_of call.words) c.asked b)
-exact call NoMemory Printed c b = absurd (no_path _ (form_of call.words) c b)
-exact call (BadDescription x) Printed c b = absurd (no_path _ (form_of call.words) c.asked b)
-exact call Printed Printed c b = inl refl
-exact call (PathRefused x) Printed c b = absurd (one_answer _ _ (form_of call.words) (λ answer p q. ok_no_fault x answer q p) c b)
-exact call BadWords Printed c b = absurd (none_no_path _ (form_of call.words) c b)
-exact call Moved (PathRefused y) c b = absurd (no_path _ (form_of call.words) c.asked b)
-exact call ReadFault (PathRefused y) c b = absurd (no_path _ (form_of call.words) c.asked b)
-exact call NoMemory (PathRefused y) c b = absurd (no_path _ (form_of call.words) c b)
-exact call (BadDescription x) (PathRefused y) c b = absurd (no_path _ (form_of call.words) c.asked b)
-exact call Printed (PathRefused y) c b = absurd (one_answer _ _ (form_of call.words) (λ answer p q. ok_no_fault y answer p q) c b)
-exact call (PathRefused x) (PathRefused y) c b = inl (one_answer _ _ (form_of call.words) (λ answer p q. same_refusal x y answer p q) c b)
-exact call BadWords (PathRefused y) c b = absurd (none_no_path _ (form_of call.words) c b)
-exact call Moved BadWords c b = absurd (no_none (form_of call.words) c.asked b)
-exact call ReadFault BadWords c b = absurd (no_none (form_of call.words) c.asked b)
-exact call NoMemory BadWords c b = absurd (no_none (form_of call.words) c b)
-exact call (BadDescription x) BadWords c b = absurd (no_none (form_of call.words) c.asked b)
-exact call Printed BadWords c b = absurd (none_no_path _ (form_of call.words) b c)
-exact call (PathRefused x) BadWords c b = absurd (none_no_path _ (form_of call.words) b c)
-exact call BadWords BadWords c b = inl refl
-exact call status Moved c b = absurd c
-exact call status (BadDescription y) c b = absurd c
-exact call status Printed c b = absurd c
-exact call status (PathRefused y) c b = absurd c
-exact call status BadWords c b = absurd c
-exact call status brought c b = absurd b
+-- an audit found in two reports of the same bytes is one
+one_audit : (call : Call) (x y : Made → Result ℕ ReportFault) (c : OfReport call (λ made. IsAuditOf made (x made)))
+    (b : OfShownReport call (λ made. IsAuditOf made (y made)))
+    → (x c.made ≡ Err OutOfMemory → ⊥) → (y b.made ≡ Err OutOfMemory → ⊥) → status_of_audit (x c.made) ≡ status_of_audit (y b.made)
+one_audit call x y c b known shown =
+    let desc : c.made.desc ≡ b.made.desc =
+    of_shown (λ answer. answer ≡ Ok c.made.desc) (λ answer. answer ≡ Ok b.made.desc) (bytes_read call)
+    (λ answer p q. same_machine c.made.desc b.made.desc answer p q) c.described.bytes b.described in
+    of_printed (IsShortReport c.made) (IsShortReport b.made) (report_read call)
+    (λ read p q.
+    let made : c.made ≡ b.made =
+    one-report c.made.desc (clear c.made.desc c.valid) read c.made b.made p.is
+    (subst (λ (D : Desc). IsReport D read b.made) (sym desc) q.is) in
+    ap status_of_audit
+    (one_result c.made (x c.made) (y b.made) c.found (subst (λ (made : Made). IsAuditOf made (y b.made)) (sym made) b.found) known shown))
+    c.reported.bytes b.reported
+
+-- a report has no bad line, and too many bytes are none
+no_report : (made : Made) (D : Desc) (line : ℕ) (read : List ℕ) → D ≡ made.desc → IsBadReport D line read → IsShortReport made read → ⊥
+no_report made D line read desc (inl long) report =
+    let many : most_of_report < length read = long.0 in
+    let few : length read ≤ most_of_report = report.short in
+    omega arith
+no_report made D line read desc (inr bad) report =
+    bad.1.none made (subst (λ (E : Desc). IsReport E read made) (sym desc) report.is)
+
+one_line : (D E : Desc) (j k : ℕ) (read : List ℕ) → E ≡ D → IsBadReport D j read → IsBadReport E k read → BadReport j ≡ BadReport k
+one_line D E j k read desc (inl long) (inl too) = ap BadReport (long.1 ∙ sym too.1)
+one_line D E j k read desc (inl long) (inr bad) =
+    let many : most_of_report < length read = long.0 in
+    let few : length read ≤ most_of_report = bad.0 in
+    absurd (omega arith)
+one_line D E j k read desc (inr bad) (inl long) =
+    let many : most_of_report < length read = long.0 in
+    let few : length read ≤ most_of_report = bad.0 in
+    absurd (omega arith)
+one_line D E j k read desc (inr bad) (inr too) =
+    ap BadReport (one-bad-line D read j k bad.1 (subst (λ (F : Desc). IsBadLine F read k) desc too.1))
+
+bad_or_report : (call : Call) (line : ℕ) (P : Made → Type 0) → OfBadReport call line → OfShownReport call P → ⊥
+bad_or_report call line P c b =
+    let desc : c.desc ≡ b.made.desc =
+    of_shown (λ answer. answer ≡ Ok c.desc) (λ answer. answer ≡ Ok b.made.desc) (bytes_read call)
+    (λ answer p q. same_machine c.desc b.made.desc answer p q) c.described.bytes b.described in
+    of_printed (IsBadReport c.desc line) (IsShortReport b.made) (report_read call) (λ read p q. no_report b.made c.desc line read desc p q) c.bad.bytes b.reported
+
+report_or_bad : (call : Call) (line : ℕ) (P : Made → Type 0) → OfReport call P → OfShownBadReport call line → ⊥
+report_or_bad call line P c b =
+    let desc : b.desc ≡ c.made.desc =
+    of_shown (λ answer. answer ≡ Ok c.made.desc) (λ answer. answer ≡ Ok b.desc) (bytes_read call)
+    (λ answer p q. same_machine b.desc c.made.desc answer q p) c.described.bytes b.described in
+    of_printed (IsShortReport c.made) (IsBadReport b.desc line) (report_read call) (λ read p q. no_report c.made b.desc line read desc q p) c.reported.bytes b.bad
+
+both_bad : (call : Call) (j k : ℕ) → OfBadReport call j → OfShownBadReport call k → BadReport j ≡ BadReport k
+both_bad call j k c b =
+    let desc : b.desc ≡ c.desc =
+    of_shown (λ answer. answer ≡ Ok c.desc) (λ answer. answer ≡ Ok b.desc) (bytes_read call)
+    (λ answer p q. same_machine b.desc c.desc answer q p) c.described.bytes b.described in
+    of_printed (IsBadReport c.desc j) (IsBadReport b.desc k) (report_read call) (λ read p q. one_line c.desc b.desc j k read desc p q) c.bad.bytes b.bad
+
+-- a description and a fault of it
+machine_or_fault : (call : Call) (D : Desc) (fault : DescFault) → OfDescription call (λ answer. answer ≡ Ok D)
+    → OfShownBytes call (λ answer. answer ≡ Err fault) → ⊥
+machine_or_fault call D fault c b = of_shown _ _ (bytes_read call) (λ answer p q. this_no_fault D fault answer p q) c.bytes b
+
+fault_or_machine : (call : Call) (D : Desc) (fault : DescFault) → OfDescription call (λ answer. answer ≡ Err fault)
+    → OfShownBytes call (λ answer. answer ≡ Ok D) → ⊥
+fault_or_machine call D fault c b = of_shown _ _ (bytes_read call) (λ answer p q. this_no_fault D fault answer q p) c.bytes b
+
+both_faults : (call : Call) (x y : DescFault) → OfDescription call (λ answer. answer ≡ Err x) → OfShownBytes call (λ answer. answer ≡ Err y)
+    → BadDescription x ≡ BadDescription y
+both_faults call x y c b = of_shown _ _ (bytes_read call) (λ answer p q. same_fault x y answer p q) c.bytes b
+
+exact_run : (call : Call) (status brought : Status) → CauseOf (Some Run) status call → BringsOf (Some Run) brought call
+    → (status ≡ brought) ⊎ IsUnforeseen status
+exact_run call ReadFault brought c b = inr tt
+exact_run call NoMemory brought c b = inr tt
+exact_run call Moved Moved c b = inl refl
+exact_run call Moved (BadDescription y) c b = absurd (of_shown _ _ (bytes_read call) (λ answer p q. ok_no_fault y answer p q) c.bytes b)
+exact_run call (BadDescription x) Moved c b = absurd (of_shown _ _ (bytes_read call) (λ answer p q. ok_no_fault x answer q p) c.bytes b)
+exact_run call (BadDescription x) (BadDescription y) c b = inl (both_faults call x y c b)
+exact_run call status Moved c b = absurd c
+exact_run call status (BadDescription y) c b = absurd c
+exact_run call status brought c b = absurd b
+
+-- the answers of an audit, of the report that was audited
+abbrev legal : Made → Result ℕ ReportFault
+legal made = Ok (length (journal made))
+
+abbrev broken_at : ℕ → Rule → Made → Result ℕ ReportFault
+broken_at place rule made = Err (RuleBroken place rule)
+
+abbrev differs_at : Section → Made → Result ℕ ReportFault
+differs_at section made = Err (OtherState section)
+
+exact_audit : (call : Call) (status brought : Status) → CauseOf (Some Audit) status call → BringsOf (Some Audit) brought call
+    → (status ≡ brought) ⊎ IsUnforeseen status
+exact_audit call ReadFault brought c b = inr tt
+exact_audit call NoMemory brought c b = inr tt
+exact_audit call Printed Printed c b = inl refl
+exact_audit call Printed (Broken p r) c b = inl (one_audit call legal (broken_at p r) c b (λ e. cc) (λ e. cc))
+exact_audit call Printed (StateDiffers s) c b = inl (one_audit call legal (differs_at s) c b (λ e. cc) (λ e. cc))
+exact_audit call Printed (BadReport k) c b = absurd (report_or_bad call k _ c b)
+exact_audit call Printed (BadDescription y) c b = absurd (machine_or_fault call c.made.desc y c.described b)
+exact_audit call (Broken q t) Printed c b = inl (one_audit call (broken_at q t) legal c b (λ e. cc) (λ e. cc))
+exact_audit call (Broken q t) (Broken p r) c b = inl (one_audit call (broken_at q t) (broken_at p r) c b (λ e. cc) (λ e. cc))
+exact_audit call (Broken q t) (StateDiffers s) c b = inl (one_audit call (broken_at q t) (differs_at s) c b (λ e. cc) (λ e. cc))
+exact_audit call (Broken q t) (BadReport k) c b = absurd (report_or_bad call k _ c b)
+exact_audit call (Broken q t) (BadDescription y) c b = absurd (machine_or_fault call c.made.desc y c.described b)
+exact_audit call (StateDiffers u) Printed c b = inl (one_audit call (differs_at u) legal c b (λ e. cc) (λ e. cc))
+exact_audit call (StateDiffers u) (Broken p r) c b = inl (one_audit call (differs_at u) (broken_at p r) c b (λ e. cc) (λ e. cc))
+exact_audit call (StateDiffers u) (StateDiffers s) c b = inl (one_audit call (differs_at u) (differs_at s) c b (λ e. cc) (λ e. cc))
+exact_audit call (StateDiffers u) (BadReport k) c b = absurd (report_or_bad call k _ c b)
+exact_audit call (StateDiffers u) (BadDescription y) c b = absurd (machine_or_fault call c.made.desc y c.described b)
+exact_audit call (BadReport j) Printed c b = absurd (bad_or_report call j _ c b)
+exact_audit call (BadReport j) (Broken p r) c b = absurd (bad_or_report call j _ c b)
+exact_audit call (BadReport j) (StateDiffers s) c b = absurd (bad_or_report call j _ c b)
+exact_audit call (BadReport j) (BadReport k) c b = inl (both_bad call j k c b)
+exact_audit call (BadReport j) (BadDescription y) c b = absurd (machine_or_fault call c.desc y c.described b)
+exact_audit call (BadDescription x) Printed c b = absurd (fault_or_machine call b.made.desc x c b.described)
+exact_audit call (BadDescription x) (Broken p r) c b = absurd (fault_or_machine call b.made.desc x c b.described)
+exact_audit call (BadDescription x) (StateDiffers s) c b = absurd (fault_or_machine call b.made.desc x c b.described)
+exact_audit call (BadDescription x) (BadReport k) c b = absurd (fault_or_machine call b.desc x c b.described)
+exact_audit call (BadDescription x) (BadDescription y) c b = inl (both_faults call x y c b)
+exact_audit call status Printed c b = absurd c
+exact_audit call status (Broken p r) c b = absurd c
+exact_audit call status (StateDiffers s) c b = absurd c
+exact_audit call status (BadReport k) c b = absurd c
+exact_audit call status (BadDescription y) c b = absurd c
+exact_audit call status brought c b = absurd b
+
+exact_path : (call : Call) (from to : MigState) (flags : ℕ) (status brought : Status) → CauseOf (Some (Paths from to flags)) status call
+    → BringsOf (Some (Paths from to flags)) brought call → (status ≡ brought) ⊎ IsUnforeseen status
+exact_path call from to flags Printed Printed c b = inl refl
+exact_path call from to flags Printed (PathRefused y) c b = absurd (ok_no_fault y (path_of from to flags) c b)
+exact_path call from to flags (PathRefused x) Printed c b = absurd (ok_no_fault x (path_of from to flags) b c)
+exact_path call from to flags (PathRefused x) (PathRefused y) c b = inl (same_refusal x y (path_of from to flags) c b)
+exact_path call from to flags status Printed c b = absurd c
+exact_path call from to flags status (PathRefused y) c b = absurd c
+exact_path call from to flags status brought c b = absurd b
+
+exact_none : (call : Call) (status brought : Status) → CauseOf None status call → BringsOf None brought call
+    → (status ≡ brought) ⊎ IsUnforeseen status
+exact_none call BadWords BadWords c b = inl refl
+exact_none call status BadWords c b = absurd c
+exact_none call status brought c b = absurd b
+
+exact : (form : Option Form) (call : Call) (status brought : Status) → CauseOf form status call → BringsOf form brought call
+    → (status ≡ brought) ⊎ IsUnforeseen status
+exact None call = exact_none call
+exact (Some Run) call = exact_run call
+exact (Some Audit) call = exact_audit call
+exact (Some (Paths from to flags)) call = exact_path call from to flags
 
 pub explained : (call : Call) (status : Status) → HasCause status call → IsExplained call status
-explained call status cause = record { cause = cause; exact = λ brought. exact call status brought cause }
+explained call status cause = record { cause = cause; exact = λ brought. exact (form_of call.words) call status brought cause }

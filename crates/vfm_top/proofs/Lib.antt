@@ -1,5 +1,6 @@
 pub mod Causes
 pub mod Forms
 pub mod Outcomes
+pub mod Audits
 pub mod Paths
 pub mod Promises

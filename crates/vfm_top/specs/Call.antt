@@ -1,9 +1,9 @@
 -- A call of `run`: its words, what the objects outside show before it and after it, and its answer.
-use Rattle.std.specs.Prelude.{◌≡◌, ℕ, ◌≤◌, List, length, take, drop, Option, option_map}
+use Rattle.std.specs.Prelude.{◌≡◌, ℕ, ◌≤◌, List, length, take, drop, Option, IfSome, option_map}
 use Rattle.vfm_outside.specs.Told.{with_prepended}
 use Rattle.vfm_outside.specs.Counts.{Rose}
 use Rattle.vfm_outside.specs.Tells.{SourceTells, SinkTells, WiresTell}
-use Rattle.vfm_top.specs.declared.status.Status.{Status}
+use Rattle.vfm_status.specs.declared.status.Status.{Status}
 
 -- what the description's source, the report's source, the wires and the output show at one moment
 pub record Outside : Type 0 where
@@ -29,24 +29,42 @@ call_of words before now answer = record { words = words; before = before; now =
 abbrev pub read_limit : ℕ
 read_limit = 16777217
 
--- the bytes that are to be read of the description, where its source shows them: the first so many, or all
-abbrev pub bytes_read : Call → Option (List ℕ)
-bytes_read call = option_map (take read_limit) call.before.desc.left
+-- how many bytes of a report are read at the most: one more than it may have
+abbrev pub report_limit : ℕ
+report_limit = 134217729
 
--- a failed read was counted
+-- the bytes that are to be read of a source, where it shows them: the first so many, or all
+abbrev pub first_bytes : ℕ → SourceTells → Option (List ℕ)
+first_bytes most source = option_map (take most) source.left
+
+-- the bytes that are to be read of the description, and those of the report
+abbrev pub bytes_read : Call → Option (List ℕ)
+bytes_read call = first_bytes read_limit call.before.desc
+
+abbrev pub report_read : Call → Option (List ℕ)
+report_read call = first_bytes report_limit call.before.report
+
+-- a failed read of the description was counted
 abbrev pub HasReadFault : Call → Type 0
 HasReadFault call = Rose call.before.desc.faults call.now.desc.faults
+
+-- a failed read of the report was counted
+abbrev pub HasReportFault : Call → Type 0
+HasReportFault call = Rose call.before.report.faults call.now.report.faults
 
 -- a failed write was counted
 abbrev pub HasWriteFault : Call → Type 0
 HasWriteFault call = Rose call.before.out.faults call.now.out.faults
-
--- the description was read to its end, or up to the limit: what stands after that is left
-abbrev pub IsReadOut : Call → Type 0
-IsReadOut call = call.now.desc.left ≡ option_map (drop read_limit) call.before.desc.left
 
 -- the first bytes of a source were read, at most so many
 pub record IsPrefixRead (most : ℕ) (before now : SourceTells) : Type 0 where
   pub bytes : List ℕ
   pub few : length bytes ≤ most
   pub read : before.left ≡ with_prepended bytes now.left
+
+-- A source was read to its end, or up to so many bytes, without a fault: of the bytes that were read this holds, where it
+-- shows them, and what stands after them is left.
+pub record IsReadTo (most : ℕ) (P : List ℕ → Type 0) (before now : SourceTells) : Type 0 where
+  pub bytes : IfSome (first_bytes most before) P
+  pub rest : now.left ≡ option_map (drop most) before.left
+  pub no_fault : now.faults ≡ before.faults

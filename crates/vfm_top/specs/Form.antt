@@ -5,7 +5,7 @@ use Rattle.vfm_types.specs.declared.state.MigState.{MigState}
 use Rattle.vfm_types.specs.declared.state.MigState.TheVariants.{Error, Stop, Running, StopCopy, Resuming, RunningP2p, PreCopy, PreCopyP2p}
 use Rattle.vfm_plain.specs.Text.{state_name}
 use Rattle.vfm_top.specs.declared.words.Form.{Form}
-use Rattle.vfm_top.specs.declared.words.Form.TheVariants.{Run, Paths}
+use Rattle.vfm_top.specs.declared.words.Form.TheVariants.{Run, Audit, Paths}
 
 -- two texts are the same
 abbrev pub same_text : List ℕ → List ℕ → Bool
@@ -40,12 +40,18 @@ paths_form _ _ _ = None
 abbrev pub run_form : List ℕ → List ℕ → Option Form
 run_form command file = if same_text command (codes "run") then (if length file == 0 then None else Some Run) else None
 
--- The form of these words, if they have one: `run FILE` or `paths FROM TO FLAGS`.
+-- the form `audit FILE REPORT`, with any two words that aren't empty
+abbrev pub audit_form : List ℕ → List ℕ → List ℕ → Option Form
+audit_form command file report =
+    if same_text command (codes "audit") then
+    (if length file == 0 then None else (if length report == 0 then None else Some Audit)) else None
+
+-- The form of these words, if they have one: `run FILE`, `audit FILE REPORT` or `paths FROM TO FLAGS`.
 abbrev pub form_of : List (List ℕ) → Option Form
 form_of [] = None
 form_of (command ∷ []) = None
 form_of (command ∷ file ∷ []) = run_form command file
-form_of (command ∷ from ∷ to ∷ []) = None
+form_of (command ∷ file ∷ report ∷ []) = audit_form command file report
 form_of (command ∷ from ∷ to ∷ flags ∷ []) =
     if same_text command (codes "paths") then paths_form (state_named from) (state_named to) (flags_named flags) else None
 form_of (command ∷ from ∷ to ∷ flags ∷ other ∷ words) = None

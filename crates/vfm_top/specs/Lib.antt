@@ -1,9 +1,7 @@
-pub mod Number
 pub mod Form
 pub mod Table
-pub mod StatusText
-pub mod Headline
 pub mod Call
+pub mod Sources
 pub mod Text
 pub mod Causes
 pub mod Answers

@@ -1,34 +1,33 @@
 -- What a run prints: a report by its status and by what was made, or a line of its own.
-use Rattle.std.specs.Prelude.{◌≡◌, ℕ, Bool, List, [], Option, Some, None, is_some, Result, Ok, Err}
+use Rattle.std.specs.Prelude.{ℕ, List, [], ◌∷◌, codes, decimal, map, Option, Some, None, Result, Ok, Err}
 use Rattle.vfm_types.specs.declared.state.MigState.{MigState}
 use Rattle.vfm_types.specs.declared.state.PathFault.{PathFault}
+use Rattle.vfm_types.specs.declared.state.PathFault.TheVariants.{Unsupported, Forbidden, FromError}
 use Rattle.vfm_types.specs.Paths.{path_of}
-use Rattle.vfm_types.specs.Phases.{is_joint}
-use Rattle.vfm_plain.specs.Report.{Made, source_past, report_text}
+use Rattle.vfm_plain.specs.Report.{Made, report_text}
+use Rattle.vfm_plain.specs.Text.{line, state_name}
 use Rattle.vfm_top.specs.declared.words.Form.{Form}
-use Rattle.vfm_top.specs.declared.words.Form.TheVariants.{Run, Paths}
-use Rattle.vfm_top.specs.declared.status.Status.{Status}
-use Rattle.vfm_top.specs.declared.status.Status.TheVariants.{Printed, BadWords, PathRefused}
-use Rattle.vfm_top.specs.Table.{Parts, parts_at}
-use Rattle.vfm_top.specs.StatusText.{status_line, path_line, refused_line}
-
--- the parts that there are after the source's journal
-abbrev pub parts_of : Made → Parts
-parts_of made =
-    record {
-      joint = is_some made.joint;
-      loaded = is_some made.loaded;
-      destination = is_some made.destination;
-      final = is_some made.final;
-    }
-
--- They are those of the status. The state at the joint stop is there exactly where the source's journal has a Joint.
-abbrev pub HasParts : Status → Made → Type 0
-HasParts status made = parts_of made ≡ parts_at status (is_joint (source_past made))
+use Rattle.vfm_top.specs.declared.words.Form.TheVariants.{Run, Audit, Paths}
+use Rattle.vfm_status.specs.declared.status.Status.{Status}
+use Rattle.vfm_status.specs.declared.status.Status.TheVariants.{Printed, BadWords, PathRefused}
+use Rattle.vfm_status.specs.StatusText.{status_line}
 
 -- the report of `run`: the status line, and what was made
 abbrev pub report : Status → Option Made → List ℕ
 report status made = report_text (status_line status) made
+
+-- the line of a path
+abbrev pub path_line : List MigState → List ℕ
+path_line states = line (codes "path") (map state_name states)
+
+-- the words of a refusal of a path
+abbrev pub refused_words : PathFault → List (List ℕ)
+refused_words (Unsupported state) = codes "unsupported" ∷ state_name state ∷ []
+refused_words (Forbidden from to) = codes "forbidden" ∷ state_name from ∷ state_name to ∷ []
+refused_words FromError = codes "from-error" ∷ []
+
+abbrev pub refused_line : PathFault → List ℕ
+refused_line fault = line (codes "refused") (refused_words fault)
 
 -- what `paths` prints: the path, or why there is none
 abbrev pub path_text : Result (List MigState) PathFault → List ℕ
@@ -40,8 +39,14 @@ abbrev pub path_status : Result (List MigState) PathFault → Status
 path_status (Ok route) = Printed
 path_status (Err fault) = PathRefused fault
 
--- what is printed for words of a form, or of none, at a status and with what was made
-abbrev pub text : Option Form → Status → Option Made → List ℕ
-text None status made = status_line BadWords
-text (Some Run) status made = report status made
-text (Some (Paths from to flags)) status made = path_text (path_of from to flags)
+-- what `audit` prints: of a legal report how many entries stand in both journals, else the line of the status
+abbrev pub audit_text : Status → ℕ → List ℕ
+audit_text Printed entries = line (codes "status") (codes "legal" ∷ decimal entries ∷ [])
+audit_text status entries = status_line status
+
+-- what is printed for words of a form, or of none, at a status, with what was made, or with so many entries of a report
+abbrev pub text : Option Form → Status → Option Made → ℕ → List ℕ
+text None status made entries = status_line BadWords
+text (Some Run) status made entries = report status made
+text (Some Audit) status made entries = audit_text status entries
+text (Some (Paths from to flags)) status made entries = path_text (path_of from to flags)

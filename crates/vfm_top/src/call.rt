@@ -10,8 +10,9 @@ ghost use Rattle.vfm_top.specs.Text.{path_status, path_text};
 ghost use Rattle.vfm_types.specs.Paths.{path_of};
 
 use crate::Status;
+use crate::audited::audit_sources;
 use crate::outcome::outcome_of_source;
-use crate::print::{print_outcome, print_path, print_report};
+use crate::print::{print_audit, print_outcome, print_path, print_report};
 use crate::words::{Form, read_words};
 use std::alloc::Global;
 use std::sync::Wait;
@@ -31,7 +32,7 @@ fn answer_path<S: Sink>(from: MigState, to: MigState, flags: Flags, out: &mut S)
 /// Does what `run` does of words that need no machine, and answers as it does. `None`, with nothing read or written,
 /// exactly where the words ask for a move.
 pub fn local<D: Source, R: Source, S: Sink>(
-    _alloc: Global,
+    alloc: Global,
     words: &[String],
     desc: &mut D,
     report: &mut R,
@@ -39,8 +40,8 @@ pub fn local<D: Source, R: Source, S: Sink>(
 ) -> Option<Status>
     ensures machine { result ≡ None ↔ form_of (map string_bytes words.now) ≡ Some Run }
     ensures unwritten { result ≡ None → sink_tells (S.holds out.new) (S.faults out.new) ≡ sink_tells (S.holds out.old) (S.faults out.old) }
-    ensures unread { source_tells (D.left desc.new) (D.faults desc.new) ≡ source_tells (D.left desc.old) (D.faults desc.old) }
-    ensures untouched { source_tells (R.left report.new) (R.faults report.new) ≡ source_tells (R.left report.old) (R.faults report.old) }
+    ensures unread { result ≡ None → source_tells (D.left desc.new) (D.faults desc.new) ≡ source_tells (D.left desc.old) (D.faults desc.old) }
+    ensures untouched { result ≡ None → source_tells (R.left report.new) (R.faults report.new) ≡ source_tells (R.left report.old) (R.faults report.old) }
     ensures promises { IfSome result (λ status. (wires : WiresTell) → Promises (call_of (map string_bytes words.now)
         (outside (source_tells (D.left desc.old) (D.faults desc.old)) (source_tells (R.left report.old) (R.faults report.old)) wires (sink_tells (S.holds out.old) (S.faults out.old)))
         (outside (source_tells (D.left desc.new) (D.faults desc.new)) (source_tells (R.left report.new) (R.faults report.new)) wires (sink_tells (S.holds out.new) (S.faults out.new)))
@@ -51,6 +52,7 @@ pub fn local<D: Source, R: Source, S: Sink>(
     };
     match form {
         Form::Paths { from, to, flags } => Some(answer_path(from, to, flags, out)),
+        Form::Audit => Some(print_audit(audit_sources(alloc, desc, report), out)),
         Form::Run => None,
     }
 }
@@ -58,10 +60,12 @@ pub fn local<D: Source, R: Source, S: Sink>(
 /// Does what the words ask for, prints it, and answers how that ended.
 ///
 /// The words, without the program's name, are `run FILE`, which moves the machine that `desc` describes and prints the
-/// report, or `paths FROM TO FLAGS`, which prints a path between device states; others are `BadWords`. A description is
-/// read to its end or up to 16,777,217 bytes, and by `run FILE` alone; a failed read is `ReadFault`, whatever another
-/// read would give. Where a write to `out` fails, the answer is `WriteFault`, and `out` has a prefix of the text.
-/// `report`, `wires` and `beat` are for forms of words that aren't built yet; no form touches them.
+/// report; `audit FILE REPORT`, which audits what `report` gives as the report of a run of that machine; or
+/// `paths FROM TO FLAGS`, which prints a path between device states. Others are `BadWords`. A description is read to its
+/// end or up to 16,777,217 bytes, by `run` and `audit` alone, and a report to its end or up to 134,217,729 bytes, by
+/// `audit` alone; a failed read is `ReadFault`, whatever another read would give. Where a write to `out` fails, the
+/// answer is `WriteFault`, and `out` has a prefix of the text. `wires` and `beat` are for forms of words that aren't built
+/// yet; no form touches them.
 pub fn run<H: Threads + Wait + Sync, D: Source, R: Source, S: Sink, W: Wires, B: Beat + Sync>(
     _rt: &H,
     alloc: Global,

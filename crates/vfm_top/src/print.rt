@@ -5,15 +5,17 @@ ghost use Rattle.vfm_outside.specs.Tells.{sink_tells};
 ghost use Rattle.vfm_text.specs.Parts.{CanPrint, made_of};
 ghost use Rattle.vfm_text.specs.Prints.{Prints};
 ghost use Rattle.vfm_text.specs.Writers.{Writes};
-ghost use Rattle.vfm_top.specs.Text.{report, path_text, path_status};
+ghost use Rattle.vfm_top.specs.Text.{report, audit_text, path_text, path_status};
 ghost use Rattle.vfm_top.specs.Answers.{Ends};
 ghost use Rattle.vfm_top.specs.Outcome.{made_in, HasSizes};
 
 use crate::Status;
-use crate::line::{put_answer, put_status};
+use crate::audited::Audited;
+use crate::line::{put_answer, put_audit};
 use crate::outcome::Outcome;
 use vfm_outside::{Failed, Sink};
 use vfm_states::Route;
+use vfm_status::put_status;
 use vfm_text::{ReportParts, SinkWriter, TextBuffer, TextWriter, put_parts};
 use vfm_types::PathFault;
 
@@ -61,6 +63,30 @@ fn write_answer<S: Sink>(answer: &Result<Route, PathFault>, out: &mut S) -> Resu
     };
     put_answer(&mut writer, answer)?;
     writer.flush()
+}
+
+/// Writes what `audit` prints to a sink.
+fn write_audit<S: Sink>(status: &Status, entries: u64, out: &mut S) -> Result<(), Failed>
+    ensures { Prints result (audit_text status.now entries) (sink_tells (S.holds out.old) (S.faults out.old)) (sink_tells (S.holds out.new) (S.faults out.new)) }
+{
+    let mut writer = SinkWriter {
+        buffer: TextBuffer::new(),
+        sink: out,
+    };
+    put_audit(&mut writer, status, entries)?;
+    writer.flush()
+}
+
+/// Prints what an audit came to and ends with its status, or with `WriteFault` where the sink failed.
+pub fn print_audit<S: Sink>(audited: Audited, out: &mut S) -> Status
+    ensures { Ends result audited.status (audit_text audited.status audited.entries)
+        (sink_tells (S.holds out.old) (S.faults out.old)) (sink_tells (S.holds out.new) (S.faults out.new)) }
+{
+    let Audited { status, entries } = audited;
+    match write_audit(&status, entries, out) {
+        Ok(()) => status,
+        Err(_) => Status::WriteFault,
+    }
 }
 
 /// Prints the report of a status and ends with it, or with `WriteFault` where the sink failed.

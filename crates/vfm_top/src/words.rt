@@ -11,6 +11,8 @@ use vfm_types::{Flags, MigState};
 pub enum Form {
     /// `run FILE`: move the described machine.
     Run,
+    /// `audit FILE REPORT`: audit the report of a run of the described machine.
+    Audit,
     /// `paths FROM TO FLAGS`: print the path between two states.
     Paths {
         from: MigState,
@@ -89,6 +91,22 @@ fn run(command: &String, file: &String) -> Option<Form>
     Some(Form::Run)
 }
 
+/// The form `audit FILE REPORT`.
+fn audit(command: &String, file: &String, report: &String) -> Option<Form>
+    ensures { result ≡ spec.audit_form (string_bytes command.now) (string_bytes file.now) (string_bytes report.now) }
+{
+    if !is_word(command, b"audit") {
+        return None;
+    }
+    if file.is_empty() {
+        return None;
+    }
+    if report.is_empty() {
+        return None;
+    }
+    Some(Form::Audit)
+}
+
 /// The form `paths FROM TO FLAGS`.
 fn paths(from: &String, to: &String, bits: &String) -> Option<Form>
     ensures { result ≡ spec.paths_form (state_named (string_bytes from.now)) (state_named (string_bytes to.now)) (flags_named (string_bytes bits.now)) }
@@ -105,6 +123,9 @@ pub fn read_words(words: &[String]) -> Option<Form>
 {
     if words.len() == 2 {
         return run(&words[0], &words[1]);
+    }
+    if words.len() == 3 {
+        return audit(&words[0], &words[1], &words[2]);
     }
     if words.len() == 4 {
         return if is_word(&words[0], b"paths") {

@@ -3,14 +3,13 @@
 #![tactic(auto)]
 
 mod draws;
-mod machines;
 mod walk;
 
 use anyhow::Result;
 
 fn main(rt: HostRuntime) -> Result<()> {
     let alloc = rt.alloc();
-    for i in 0..machines::MACHINES {
+    for i in 0..vfm_samples::MACHINES {
         walk::walk(&rt, alloc, i)?;
     }
     Ok(())

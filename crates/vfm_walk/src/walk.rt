@@ -3,13 +3,13 @@
 ghost use Rattle.std.specs.Prelude.{◌<◌};
 
 use crate::draws::Draws;
-use crate::machines::machine;
 use anyhow::{Result, bail};
 use std::alloc::Global;
 use std::io::Print;
 use vfm_core::Core;
 use vfm_device_part::Guard;
 use vfm_quiet::{Want, next};
+use vfm_samples::machine;
 use vfm_types::{Desc, DeviceId, Entry, MigState};
 
 /// How many entries a walk tries.

@@ -11,7 +11,7 @@ pub returns-in_err-put_counts : goal.returns-in_err-put_counts
 returns-in_err-put_counts g c =
     let p = err_from_is_err_and c.from_residual.result c.from_residual.ensures.1 in
     let writer = g.met.P.TextWriter in
-    let device = device_of c.args.plain.now c.args.d in
+    let device = device_of (g.M.MachineView.machine c.args.machine.now) c.args.d in
     let counts = counts_line c.args.d (shape_at c.args.desc.now c.args.d).name device in
     let buf = buf_line c.args.d device in
     let bar = bars_text c.args.d (shape_at c.args.desc.now c.args.d).bars device.bar in
@@ -21,7 +21,7 @@ pub returns-in_err-put_buf : goal.returns-in_err-put_buf
 returns-in_err-put_buf g c =
     let p = err_from_is_err_and c.from_residual-in_err-put_buf.result c.from_residual-in_err-put_buf.ensures.1 in
     let writer = g.met.P.TextWriter in
-    let device = device_of c.args.plain.now c.args.d in
+    let device = device_of (g.M.MachineView.machine c.args.machine.now) c.args.d in
     let counts = counts_line c.args.d (shape_at c.args.desc.now c.args.d).name device in
     let buf = buf_line c.args.d device in
     let bar = bars_text c.args.d (shape_at c.args.desc.now c.args.d).bars device.bar in
@@ -31,7 +31,7 @@ pub returns-in_err-put_bars : goal.returns-in_err-put_bars
 returns-in_err-put_bars g c =
     let p = err_from_is_err_and c.from_residual-in_err-put_bars.result c.from_residual-in_err-put_bars.ensures.1 in
     let writer = g.met.P.TextWriter in
-    let device = device_of c.args.plain.now c.args.d in
+    let device = device_of (g.M.MachineView.machine c.args.machine.now) c.args.d in
     let counts = counts_line c.args.d (shape_at c.args.desc.now c.args.d).name device in
     let buf = buf_line c.args.d device in
     let bar = bars_text c.args.d (shape_at c.args.desc.now c.args.d).bars device.bar in
@@ -40,7 +40,7 @@ returns-in_err-put_bars g c =
 pub returns : goal.returns
 returns g c =
     let writer = g.met.P.TextWriter in
-    let device = device_of c.args.plain.now c.args.d in
+    let device = device_of (g.M.MachineView.machine c.args.machine.now) c.args.d in
     let counts = counts_line c.args.d (shape_at c.args.desc.now c.args.d).name device in
     let buf = buf_line c.args.d device in
     let bar = bars_text c.args.d (shape_at c.args.desc.now c.args.d).bars device.bar in

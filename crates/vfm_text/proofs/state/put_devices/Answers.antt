@@ -10,12 +10,12 @@ pub returns-in_err-put_device : goal.returns-in_err-put_device
 returns-in_err-put_device g c =
     let p = err_from_is_err_and c.from_residual.result c.from_residual.ensures.1 in
     let writer = g.met.P.TextWriter in
-    rw (p.1, numbered-parts (described_text c.args.desc.now) 0 c.args.plain.now.devices c.loop-d.d no_device (omega arith), zero-add) (
+    rw (p.1, numbered-parts (described_text c.args.desc.now) 0 (g.M.MachineView.machine c.args.machine.now).devices c.loop-d.d no_device (omega arith), zero-add) (
     writer.stop_before _ _ _ _ (writer.stop_after _ _ _ _ _ c.loop-d.invariant c.in_err-put_device.ensures)
     )
 
 pub loop-d-preserved : goal.loop-d-preserved
 loop-d-preserved g c =
-    rw (add-one, numbered-more (described_text c.args.desc.now) 0 c.args.plain.now.devices c.loop-d.d no_device (omega arith), zero-add) (
+    rw (add-one, numbered-more (described_text c.args.desc.now) 0 (g.M.MachineView.machine c.args.machine.now).devices c.loop-d.d no_device (omega arith), zero-add) (
     g.met.P.TextWriter.more _ _ _ _ _ c.loop-d.invariant c.in_ok-put_device.ensures
     )

@@ -4,4 +4,4 @@ use Rattle.vfm_plain.specs.StateText.{devices_text}
 use Rattle.vfm_text.proofs.state.put_devices.Given as goal
 
 abbrev pub invariant-loop-d : goal.invariant-loop-d
-invariant-loop-d g l = g.P.TextWriter.takes l.fn.writer l.writer (devices_text l.desc 0 (take l.d l.plain.devices))
+invariant-loop-d g l = g.P.TextWriter.takes l.fn.writer l.writer (devices_text l.desc 0 (take l.d (g.M.MachineView.machine l.machine).devices))

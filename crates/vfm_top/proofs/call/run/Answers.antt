@@ -11,9 +11,10 @@ pub returns-in-None : goal.returns-in-None
 returns-in-None g c =
     let here = c.in-None.ensures in
     let outcome = c.outcome_of_source in
+    let unread = here.unread refl in
     with_move _ outcome.result.status (made_in outcome.result) (here.machine.0 refl)
-    (outcome.ensures.outcome _ (record { asked = here.machine.0 refl; before = sym here.unread; now = refl }))
-    (rw (← here.unread) outcome.ensures.read)
-    here.untouched
+    (outcome.ensures.outcome _ (record { asked = here.machine.0 refl; before = sym unread; now = refl; unaudited = here.untouched refl }))
+    (rw (← unread) outcome.ensures.read)
+    (here.untouched refl)
     refl
     (rw (← here.unwritten refl) c.print_outcome.ensures)

@@ -2,7 +2,7 @@
 use Rattle.std.proofs.lemmas.Result.{MatchResult-weaker}
 use Rattle.vfm_plain.specs.Report.{parts_text}
 use Rattle.vfm_text.specs.Parts.{made_of}
-use Rattle.vfm_top.specs.StatusText.{status_line}
+use Rattle.vfm_status.specs.StatusText.{status_line}
 use Rattle.vfm_top.proofs.print.put_report.Goals as goal
 
 pub returns-in-Some : goal.returns-in-Some

@@ -6,6 +6,7 @@ use Rattle.vfm_lead.specs.Shown.{Shows}
 use Rattle.vfm_lead.proofs.ShownList.{shown_alike}
 use Rattle.vfm_core.specs.CoreState.{CoreState}
 use Rattle.vfm_core.proofs.ShownWorld.{shows_world}
+use Rattle.vfm_core.proofs.StagedLook.{staged_alike}
 use Rattle.vfm_core.proofs.machine.Core.look.Goals as goal
 
 pub returns-clause-shows : goal.returns-clause-shows
@@ -19,3 +20,8 @@ returns-clause-follows c = λ past is.
     shown_alike c.args.self.now.desc past c.look_of.result
     (subst (λ (s : CoreState). IsValid s.desc) c.self.view_is c.self.invariant.fit.valid)
     (subst (λ (w : World). Shows c.args.self.now.desc (parts_in w) c.look_of.result) is.told (returns-clause-shows c))
+
+pub returns-clause-staged : goal.returns-clause-staged
+returns-clause-staged c = λ before mine is.
+    staged_alike c.args.self.now.desc before mine c.args.self.now.world
+    (subst (λ (s : CoreState). IsValid s.desc) c.self.view_is c.self.invariant.fit.valid) is c.look_of.result (returns-clause-shows c)

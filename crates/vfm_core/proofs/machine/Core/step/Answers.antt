@@ -1,5 +1,5 @@
 -- The laws of parts, at the entry that was made or refused.
-use Rattle.std.proofs.Common.{◌≡◌, Option, None, Some, false, is_none, subst}
+use Rattle.std.proofs.Common.{◌≡◌, ◌++◌, Option, None, Some, false, is_none, subst}
 use Rattle.std.specs.Result.{MatchResult}
 use Rattle.vfm_types.specs.declared.entry.Rule.{Rule}
 use Rattle.vfm_device_part.specs.declared.steps.Guard.{Guard}
@@ -22,7 +22,8 @@ returns-clause-follows c = λ past is.
     c.make.result c.make.ensures.guard) c.make.ensures.done
 
 pub returns-clause-staged_rule : goal.returns-clause-staged_rule
-returns-clause-staged_rule c = λ past is.
+returns-clause-staged_rule c = λ before mine is.
+    let past = mine ++ before in
     matched (fault_on c.args.self.now.desc c.args.self.now.world c.args.e ≡ None) (fault_of c.args.self.now.desc past c.args.e ≡ None)
     (λ (guard : Guard). fault_on c.args.self.now.desc c.args.self.now.world c.args.e ≡ Some guard.0) (λ (guard : Guard). is_none (fault_of c.args.self.now.desc past c.args.e) ≡ false)
     c.make.result
@@ -31,8 +32,8 @@ returns-clause-staged_rule c = λ past is.
     c.make.ensures.guard
 
 pub returns-clause-staged : goal.returns-clause-staged
-returns-clause-staged c = λ past is.
+returns-clause-staged c = λ before mine is.
     at_ok c.make.result
-    (staged_goes_on c.args.self.now c.make.new.self c.args.e past c.make.ensures.valid c.requires is)
+    (staged_goes_on c.args.self.now c.make.new.self c.args.e before mine c.make.ensures.valid c.requires is)
     (matched_ok (fault_on c.args.self.now.desc c.args.self.now.world c.args.e ≡ None) (λ (guard : Guard). fault_on c.args.self.now.desc c.args.self.now.world c.args.e ≡ Some guard.0)
     c.make.result c.make.ensures.guard) c.make.ensures.done

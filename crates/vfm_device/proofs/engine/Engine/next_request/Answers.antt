@@ -9,8 +9,8 @@ pub returns-clause-value : goal.returns-clause-value
 returns-clause-value c =
     let pending = ap (λ (e : EngineState). e.pending) c.self.view_is in
     let requests = ap (λ (e : EngineState). e.requests) c.self.view_is in
-    rw (c.item_at.ensures, c.pending.ensures, c.undelivered-waiting.ensures.value, pending, requests)
-    (next_item c.args.desc.now c.args.d (plain_with [] c.args.self.now) c.args.self.now.requests c.requires.kept.queue)
+    rw (c.item_at.ensures, c.pending.ensures, c.undelivered-waiting.ensures, pending, requests)
+    (next_item c.args.desc.now c.args.d (plain_with [] c.args.self.now) c.args.self.now.requests c.requires.queue)
 
 pub returns-clause-next : goal.returns-clause-next
-returns-clause-next c = if_next c.args.desc.now c.args.d c.args.self.now c.item_at.result c.requires.kept (returns-clause-value c)
+returns-clause-next c = if_next c.args.desc.now c.args.d c.args.self.now c.item_at.result c.requires (returns-clause-value c)

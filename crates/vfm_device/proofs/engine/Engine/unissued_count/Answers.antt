@@ -9,8 +9,8 @@ overflow_sub-result c =
     let pending = ap (λ (e : EngineState). e.pending) c.self.view_is in
     let requests = ap (λ (e : EngineState). e.requests) c.self.view_is in
     let sum : c.count.result ≡ c.undelivered.result + length (unissued_in c.args.self.now) =
-    rw (c.count.ensures, c.undelivered.ensures.value, pending, requests)
-    (unissued_length c.args.desc.now c.args.d (plain_with [] c.args.self.now) c.args.self.now.requests c.requires.kept.queue) in
+    rw (c.count.ensures, c.undelivered.ensures, pending, requests)
+    (unissued_length c.args.desc.now c.args.d (plain_with [] c.args.self.now) c.args.self.now.requests c.requires.queue) in
     omega (arith, sum)
 
 pub returns : goal.returns
@@ -18,6 +18,6 @@ returns c =
     let pending = ap (λ (e : EngineState). e.pending) c.self.view_is in
     let requests = ap (λ (e : EngineState). e.requests) c.self.view_is in
     let sum : c.count.result ≡ c.undelivered.result + length (unissued_in c.args.self.now) =
-    rw (c.count.ensures, c.undelivered.ensures.value, pending, requests)
-    (unissued_length c.args.desc.now c.args.d (plain_with [] c.args.self.now) c.args.self.now.requests c.requires.kept.queue) in
+    rw (c.count.ensures, c.undelivered.ensures, pending, requests)
+    (unissued_length c.args.desc.now c.args.d (plain_with [] c.args.self.now) c.args.self.now.requests c.requires.queue) in
     omega (arith, sum)

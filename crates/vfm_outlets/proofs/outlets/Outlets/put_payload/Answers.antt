@@ -5,7 +5,7 @@ use Rattle.vfm_packet.specs.Packet.{Packet, packet_bytes}
 use Rattle.vfm_packet.specs.declared.header.Kind.{Kind}
 use Rattle.vfm_record.specs.Record.{record_bytes}
 use Rattle.vfm_send.specs.Lanes.{lane}
-use Rattle.vfm_send.specs.Sends.{given}
+use Rattle.vfm_send.specs.Sends.{given, link_of}
 use Rattle.vfm_send.specs.declared.sender.Sender.{Sender}
 use Rattle.vfm_streams.specs.Packets.{kind_of}
 use Rattle.vfm_outlets.proofs.Given.{refilled}
@@ -41,4 +41,5 @@ returns-clause-put g c = λ D starts all r bytes kind carried.
     ∙ ap₂ (λ (senders : List (Sender g.row.L.Denot)) (p : Packet). slice_set (map (given g.L.Link.sent) senders) c.lane-channel.result
     (with_appended (slice_index_or (map (given g.L.Link.sent) senders) c.lane-channel.result None) (packet_bytes p))) old packet)
     (ap length items ∙ c.put_into.ensures.count ∙ ap length old)
+    (ap (map link_of) items ∙ c.put_into.ensures.links ∙ ap (map link_of) old)
     refl refl refl

@@ -18,6 +18,7 @@ loop-at-preserved c =
           (c.step-at.ensures.stands (came ++ take at bytes) before (c.loop-at.invariant.stands came before s));
       waiting = c.step-at.ensures.waiting;
       streams = c.step-at.ensures.streams ∙ c.loop-at.invariant.streams;
+      rings = c.step-at.ensures.rings ∙ c.loop-at.invariant.rings;
       expect = c.step-at.ensures.expect ∙ c.loop-at.invariant.expect;
       came = c.step-at.ensures.came ∙ omega (arith, c.loop-at.invariant.came);
     }

@@ -1,6 +1,6 @@
 use Rattle.std.proofs.Common.{◌≡◌, ◌+◌, ◌-◌, ◌≤◌, ◌++◌, ℕ, List, length, take}
 use Rattle.vfm_mesh.specs.declared.fan.Fan.{Fan}
-use Rattle.vfm_mesh.specs.Rows.{stream_count}
+use Rattle.vfm_mesh.specs.Rows.{stream_count, fan_rings}
 use Rattle.vfm_recv.specs.Intakes.{Standing, IsWaiting}
 use Rattle.vfm_recv.proofs.intake.Intake.take_in.Given as goal
 
@@ -11,6 +11,7 @@ invariant-loop-at l = record {
   stands : (came : List ℕ) (before : Fan) → Standing l.initial.self came before l.initial.fan → Standing l.self (came ++ take l.at l.bytes) before l.fan;
   waiting : IsWaiting l.self;
   streams : stream_count l.fan ≡ stream_count l.initial.fan;
+  rings : fan_rings l.fan ≡ fan_rings l.initial.fan;
   expect : l.self.expect ≡ l.initial.self.expect;
   came : l.self.came ≡ l.initial.self.came + l.at;
 }

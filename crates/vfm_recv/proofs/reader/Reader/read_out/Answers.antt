@@ -50,6 +50,7 @@ loop-chunk-preserved g c =
       expect = inv.expect;
       channel = inv.channel;
       streams = c.take_in.ensures.streams ∙ inv.streams;
+      rings = c.take_in.ensures.rings ∙ inv.rings;
       failed_in = c.in-Ok.ensures.count.ok ∙ inv.failed_in;
       failed_out = c.recv.ensures.other_count ∙ inv.failed_out;
       sent = c.recv.ensures.sent ∙ inv.sent;

@@ -1,5 +1,5 @@
 use Rattle.std.proofs.Common.{◌≡◌, ◌-◌}
-use Rattle.vfm_mesh.specs.Rows.{stream_count}
+use Rattle.vfm_mesh.specs.Rows.{stream_count, fan_rings}
 use Rattle.vfm_recv.specs.Intakes.{Standing, IsWaiting}
 use Rattle.vfm_recv.proofs.Received.{Came}
 use Rattle.vfm_recv.proofs.reader.Reader.read_out.Given as goal
@@ -13,6 +13,7 @@ invariant-loop-chunk g l = record {
   expect : l.self.expect ≡ l.initial.self.expect;
   channel : l.self.channel ≡ l.initial.self.channel;
   streams : stream_count l.fan ≡ stream_count l.initial.fan;
+  rings : fan_rings l.fan ≡ fan_rings l.initial.fan;
   failed_in : g.L.Link.failed_in l.self.link ≡ g.L.Link.failed_in l.initial.self.link;
   failed_out : g.L.Link.failed_out l.self.link ≡ g.L.Link.failed_out l.initial.self.link;
   sent : g.L.Link.sent l.self.link ≡ g.L.Link.sent l.initial.self.link;

@@ -1,0 +1,4 @@
+pub mod Making
+pub mod Audits
+pub mod Joints
+pub mod Printed

@@ -1,0 +1,4 @@
+pub mod Audit
+pub mod Steps
+pub mod Audited
+pub mod FoundIn

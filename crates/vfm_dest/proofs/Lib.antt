@@ -1,0 +1,10 @@
+-- The lemmas of this crate.
+pub mod Staging
+pub mod Weights
+pub mod Emptying
+pub mod Hearing
+pub mod Weighing
+pub mod Telling
+pub mod Deciding
+pub mod Taking
+pub mod Going

@@ -1,0 +1,32 @@
+//! The receiving end of a move.
+#![tactic(auto)]
+
+mod answering;
+mod bridge;
+mod draining;
+mod finishing;
+mod homeward;
+mod judging;
+mod laws;
+mod reading;
+mod ready;
+mod staged;
+mod whole;
+
+pub use answering::answer;
+pub use bridge::parts_are_loaded;
+pub use draining::{drain, drain_stream};
+pub use finishing::finish;
+pub use judging::{StageFault, judge};
+pub use laws::{brought_bytes_decide, whole_machines_are_staged};
+pub use reading::{AllHeard, Heard, read_all};
+pub use ready::Ready;
+pub use staged::Staged;
+pub use whole::{stage, stage_in};
+
+#[cfg(test)]
+mod control_tests;
+#[cfg(test)]
+mod tests;
+#[cfg(test)]
+mod worked;

@@ -1,0 +1,4 @@
+pub mod Arrivals
+pub mod Doubles
+pub mod Prefixes
+pub mod Refused

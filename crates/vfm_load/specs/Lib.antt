@@ -1,0 +1,4 @@
+pub mod Stored
+pub mod Stores
+pub mod Parts
+pub mod Loads

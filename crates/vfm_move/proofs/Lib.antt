@@ -1,0 +1,5 @@
+-- The lemmas of this crate.
+pub mod Cases
+pub mod GivenUp
+pub mod Unanswered
+pub mod Confirmed

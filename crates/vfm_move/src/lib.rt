@@ -1,0 +1,7 @@
+//! A described machine is moved from one end to the other over wires: what such a move means, what its statuses say, and laws
+//! and worked cases of that.
+#![tactic(auto)]
+
+pub mod laws;
+pub mod steps;
+pub mod worked;

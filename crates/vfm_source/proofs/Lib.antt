@@ -1,0 +1,14 @@
+pub mod Records
+pub mod Moves
+pub mod Devices
+pub mod Turns
+pub mod Leaving
+pub mod Fails
+pub mod Told
+pub mod Outcomes
+pub mod Channels
+pub mod Refused
+pub mod Finishing
+pub mod Closed
+pub mod Sources
+pub mod RefusedOffers

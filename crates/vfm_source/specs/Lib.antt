@@ -1,0 +1,5 @@
+pub mod Moving
+pub mod Source
+pub mod Rounds
+pub mod Offers
+pub mod Refusals
