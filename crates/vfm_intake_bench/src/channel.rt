@@ -53,7 +53,15 @@ fn put_of_device(out: &mut Vec<u8>, desc: &Desc, index: u32) -> Result<()>
     requires { IsValid desc.now }
 {
     match index {
-        0 => put(out, 1, index, &Rec::Block { b: 0, bytes: &[0; 64] }),
+        0 => put(
+            out,
+            1,
+            index,
+            &Rec::Block {
+                b: 0,
+                bytes: &[0; 64],
+            },
+        ),
         1 => {
             let rec = Rec::Engine {
                 accepted: 0,
@@ -64,7 +72,14 @@ fn put_of_device(out: &mut Vec<u8>, desc: &Desc, index: u32) -> Result<()>
             };
             put(out, 1, index, &rec)
         }
-        _ => put(out, 1, index, &Rec::Config { digest: &shape_digest(desc, 1) }),
+        _ => put(
+            out,
+            1,
+            index,
+            &Rec::Config {
+                digest: &shape_digest(desc, 1),
+            },
+        ),
     }
 }
 
@@ -79,7 +94,14 @@ fn put_of_memory(out: &mut Vec<u8>, desc: &Desc, pages: u32, index: u32) -> Resu
         };
         return put(out, 0, index, &rec);
     }
-    put(out, 0, index, &Rec::Config { digest: &shape_digest(desc, 0) })
+    put(
+        out,
+        0,
+        index,
+        &Rec::Config {
+            digest: &shape_digest(desc, 0),
+        },
+    )
 }
 
 /// The bytes of a channel of just under so many mebibytes.
