@@ -33,8 +33,8 @@ fn machine_of(alloc: Global, core: &Core) -> Result<Plain>
 }
 
 // writes the parts of a report behind its status line
-fn write_parts(parts: &ReportParts<'_>, out: &mut MemSink) -> Result<()>
-    requires { CanPrint parts.now }
+fn write_parts(parts: &ReportParts<'_, Plain>, out: &mut MemSink) -> Result<()>
+    requires { CanPrint (λ m. m) parts.now }
 {
     if write_all(&mut *out, b"status link-fault control\n").is_err() {
         bail!("no room for the status line");

@@ -8,19 +8,19 @@ ghost use Rattle.vfm_plain.specs.Report.{journal_part, state_part, if_there, par
 ghost use Rattle.vfm_text.specs.Writers.{Writes};
 ghost use Rattle.vfm_text.specs.Parts.{made_of, CanPrint};
 
-use crate::TextWriter;
 use crate::entry::put_journal;
 use crate::piece::put_line;
 use crate::state::put_state;
+use crate::{MachineView, TextWriter};
 use vfm_journal::Journal;
 use vfm_outside::Failed;
 use vfm_plain::Plain;
 use vfm_types::Desc;
 
 /// What a run made, as its report has it after the status line. Each part but the first two is there only where the run has
-/// it.
+/// it. The machine at the joint stop is a plain one; the other two are lent by what holds them.
 #[derive(Drop)]
-pub struct ReportParts<'a> {
+pub struct ReportParts<'a, M> {
     /// The described machine.
     pub desc: &'a Desc,
     /// The source's journal.
@@ -28,11 +28,11 @@ pub struct ReportParts<'a> {
     /// The machine at the joint stop.
     pub joint: Option<&'a Plain>,
     /// The machine that the destination loaded, where it differs.
-    pub loaded: Option<&'a Plain>,
+    pub loaded: Option<&'a M>,
     /// The destination's journal.
     pub destination: Option<&'a Journal>,
     /// The machine at the end. (`final` is a word of the language.)
-    pub final_state: Option<&'a Plain>,
+    pub final_state: Option<&'a M>,
 }
 
 /// Writes a journal under its title.
@@ -63,42 +63,45 @@ fn put_journal_if<P: TextWriter>(
 }
 
 /// Writes a machine under its title.
-fn put_state_part<P: TextWriter>(
+fn put_state_part<P: TextWriter, M: MachineView>(
     writer: &mut P,
     desc: &Desc,
     title: &[u8],
-    plain: &Plain,
+    machine: &M,
 ) -> Result<(), Failed>
-    requires shape { HasShape desc.now plain.now }
+    requires shape { HasShape desc.now (M.machine machine.now) }
     requires few { device_count desc.now < 256 }
-    ensures { Writes P.takes P.stops writer.old writer.new (state_part desc.now title.now plain.now) result }
+    ensures { Writes P.takes P.stops writer.old writer.new (state_part desc.now title.now (M.machine machine.now)) result }
 {
     put_line(writer, b"state", &[title])?;
-    put_state(writer, plain, desc)
+    put_state(writer, machine, desc)
 }
 
 /// Writes a machine under its title, where it is there.
-fn put_state_if<P: TextWriter>(
+fn put_state_if<P: TextWriter, M: MachineView>(
     writer: &mut P,
     desc: &Desc,
     title: &[u8],
-    plain: Option<&Plain>,
+    machine: Option<&M>,
 ) -> Result<(), Failed>
-    requires shape { IfSome plain (λ m. HasShape desc.now m.now) }
+    requires shape { IfSome machine (λ m. HasShape desc.now (M.machine m.now)) }
     requires few { device_count desc.now < 256 }
     ensures { Writes P.takes P.stops writer.old writer.new
-        (if_there (state_part desc.now title.now) (option_map (λ m. m.now) plain.entry)) result }
+        (if_there (state_part desc.now title.now) (option_map (λ m. M.machine m.now) machine.entry)) result }
 {
-    match plain {
-        Some(plain) => put_state_part(writer, desc, title, plain),
+    match machine {
+        Some(machine) => put_state_part(writer, desc, title, machine),
         None => Ok(()),
     }
 }
 
 /// Writes the parts of a report in their order, and the line that ends them.
-pub fn put_parts<P: TextWriter>(writer: &mut P, parts: &ReportParts<'_>) -> Result<(), Failed>
-    requires { CanPrint parts.now }
-    ensures { Writes P.takes P.stops writer.old writer.new (parts_text (made_of parts.now)) result }
+pub fn put_parts<P: TextWriter, M: MachineView>(
+    writer: &mut P,
+    parts: &ReportParts<'_, M>,
+) -> Result<(), Failed>
+    requires { CanPrint M.machine parts.now }
+    ensures { Writes P.takes P.stops writer.old writer.new (parts_text (made_of M.machine parts.now)) result }
 {
     let desc = parts.desc;
     put_journal_part(writer, b"source", parts.source)?;

@@ -12,7 +12,7 @@ ghost use Rattle.vfm_types.specs.Paths.{path_of};
 use crate::Status;
 use crate::audited::audit_sources;
 use crate::outcome::outcome_of_source;
-use crate::print::{print_audit, print_outcome, print_path, print_report};
+use crate::print::{print_audit, print_line, print_outcome, print_path};
 use crate::words::{Form, read_words};
 use std::alloc::Global;
 use std::sync::Wait;
@@ -48,7 +48,7 @@ pub fn local<D: Source, R: Source, S: Sink>(
         status)) }
 {
     let Some(form) = read_words(words) else {
-        return Some(print_report(Status::BadWords, None, out));
+        return Some(print_line(Status::BadWords, out));
     };
     match form {
         Form::Paths { from, to, flags } => Some(answer_path(from, to, flags, out)),

@@ -1,6 +1,6 @@
 //! Printing what a run ends with.
 
-ghost use Rattle.std.specs.Prelude.{◌≡◌, IfSome, option_map};
+ghost use Rattle.std.specs.Prelude.{◌≡◌, IfSome, None, option_map};
 ghost use Rattle.vfm_outside.specs.Tells.{sink_tells};
 ghost use Rattle.vfm_text.specs.Parts.{CanPrint, made_of};
 ghost use Rattle.vfm_text.specs.Prints.{Prints};
@@ -14,19 +14,20 @@ use crate::audited::Audited;
 use crate::line::{put_answer, put_audit};
 use crate::outcome::Outcome;
 use vfm_outside::{Failed, Sink};
+use vfm_plain::Plain;
 use vfm_states::Route;
 use vfm_status::put_status;
-use vfm_text::{ReportParts, SinkWriter, TextBuffer, TextWriter, put_parts};
+use vfm_text::{MachineView, ReportParts, SinkWriter, TextBuffer, TextWriter, put_parts};
 use vfm_types::PathFault;
 
 /// Writes the line of a status, and the parts of its report where it has them.
-fn put_report<P: TextWriter>(
+fn put_report<P: TextWriter, M: MachineView>(
     writer: &mut P,
     status: &Status,
-    parts: Option<&ReportParts<'_>>,
+    parts: Option<&ReportParts<'_, M>>,
 ) -> Result<(), Failed>
-    requires { IfSome parts (λ parts. CanPrint parts.now) }
-    ensures { Writes P.takes P.stops writer.old writer.new (report status.now (option_map (λ parts. made_of parts.now) parts.entry)) result }
+    requires { IfSome parts (λ parts. CanPrint M.machine parts.now) }
+    ensures { Writes P.takes P.stops writer.old writer.new (report status.now (option_map (λ parts. made_of M.machine parts.now) parts.entry)) result }
 {
     put_status(writer, status)?;
     match parts {
@@ -36,13 +37,13 @@ fn put_report<P: TextWriter>(
 }
 
 /// Writes a report to a sink.
-fn write_report<S: Sink>(
+fn write_report<S: Sink, M: MachineView>(
     status: &Status,
-    parts: Option<&ReportParts<'_>>,
+    parts: Option<&ReportParts<'_, M>>,
     out: &mut S,
 ) -> Result<(), Failed>
-    requires { IfSome parts (λ parts. CanPrint parts.now) }
-    ensures { Prints result (report status.now (option_map (λ parts. made_of parts.now) parts.entry))
+    requires { IfSome parts (λ parts. CanPrint M.machine parts.now) }
+    ensures { Prints result (report status.now (option_map (λ parts. made_of M.machine parts.now) parts.entry))
         (sink_tells (S.holds out.old) (S.faults out.old)) (sink_tells (S.holds out.new) (S.faults out.new)) }
 {
     let mut writer = SinkWriter {
@@ -90,15 +91,27 @@ pub fn print_audit<S: Sink>(audited: Audited, out: &mut S) -> Status
 }
 
 /// Prints the report of a status and ends with it, or with `WriteFault` where the sink failed.
-pub fn print_report<S: Sink>(status: Status, parts: Option<&ReportParts<'_>>, out: &mut S) -> Status
-    requires { IfSome parts (λ parts. CanPrint parts.now) }
-    ensures { Ends result status (report status (option_map (λ parts. made_of parts.now) parts.entry))
+pub fn print_report<S: Sink, M: MachineView>(
+    status: Status,
+    parts: Option<&ReportParts<'_, M>>,
+    out: &mut S,
+) -> Status
+    requires { IfSome parts (λ parts. CanPrint M.machine parts.now) }
+    ensures { Ends result status (report status (option_map (λ parts. made_of M.machine parts.now) parts.entry))
         (sink_tells (S.holds out.old) (S.faults out.old)) (sink_tells (S.holds out.new) (S.faults out.new)) }
 {
     match write_report(&status, parts, out) {
         Ok(()) => status,
         Err(_) => Status::WriteFault,
     }
+}
+
+/// Prints the line of a status that nothing was made at, and ends with it, or with `WriteFault` where the sink failed.
+pub fn print_line<S: Sink>(status: Status, out: &mut S) -> Status
+    ensures { Ends result status (report status None)
+        (sink_tells (S.holds out.old) (S.faults out.old)) (sink_tells (S.holds out.new) (S.faults out.new)) }
+{
+    print_report::<S, Plain>(status, None, out)
 }
 
 /// Prints the path, or why there is none, and ends with the status of that.
@@ -134,6 +147,6 @@ pub fn print_outcome<S: Sink>(outcome: Outcome, out: &mut S) -> Status
             };
             print_report(status, Some(&parts), out)
         }
-        None => print_report(status, None, out),
+        None => print_line(status, out),
     }
 }

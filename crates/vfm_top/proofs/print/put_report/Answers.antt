@@ -9,7 +9,7 @@ pub returns-in-Some : goal.returns-in-Some
 returns-in-Some g c =
     let writer = g.met.P.TextWriter in
     let status = status_line c.args.status.now in
-    let parts = parts_text (made_of c.in-Some.parts.now) in
+    let parts = parts_text (made_of g.M.MachineView.machine c.in-Some.parts.now) in
     rw (c.in-Some.is)
     (MatchResult-weaker c.put_parts.result c.put_parts.ensures
     (λ _ h. writer.more _ _ _ status parts c.in_ok-put_status.ensures h)
