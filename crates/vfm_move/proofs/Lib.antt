@@ -3,3 +3,5 @@ pub mod Cases
 pub mod GivenUp
 pub mod Unanswered
 pub mod Confirmed
+pub mod Undisturbed
+pub mod AnswerHeard
