@@ -77,7 +77,7 @@ pub go_long : (session : ℕ) (digest : List ℕ) → length digest ≡ 32 → l
 unfolding frame_bytes
 go_long session digest len = omega arith
 
-refused_long : (session : ℕ) (why : Refusal) → length (frame_bytes (frames.Refused session why)) ≡ 44
+pub refused_long : (session : ℕ) (why : Refusal) → length (frame_bytes (frames.Refused session why)) ≡ 44
 unfolding frame_bytes
 refused_long session why = refl
 

@@ -5,3 +5,4 @@ pub mod Unanswered
 pub mod Confirmed
 pub mod Undisturbed
 pub mod AnswerHeard
+pub mod NotRefused
