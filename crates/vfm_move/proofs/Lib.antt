@@ -6,3 +6,4 @@ pub mod Confirmed
 pub mod Undisturbed
 pub mod AnswerHeard
 pub mod NotRefused
+pub mod Carrying
