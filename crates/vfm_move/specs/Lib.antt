@@ -7,3 +7,4 @@ pub mod Complete
 pub mod Move
 pub mod Undisturbed
 pub mod Worked
+pub mod WorkedLinks

@@ -6,3 +6,4 @@ pub mod complete;
 pub mod laws;
 pub mod steps;
 pub mod worked;
+pub mod worked_links;
