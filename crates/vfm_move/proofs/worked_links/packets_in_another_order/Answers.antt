@@ -121,9 +121,11 @@ second_end : HasEnd one (receives (config_packet ++ data_packet ++ end_bytes))
 unfolding reading_of decoded head_fault word_at channel_limit head_bytes
 second_end = refl
 
-end_is_piece : (sent : List Packet) (bytes : List ℕ) → bytes ≡ packet_bytes (end_packet one) → IsPieceOf (end_packet one ∷ sent) bytes
+end_is_piece : (sent : List Packet) (bytes : List ℕ) → bytes ≡ packet_bytes (end_packet one)
+    → IsPieceOf (end_packet one ∷ sent) bytes
 end_is_piece sent bytes is =
-    inl (subst (λ (l : List ℕ). IsFront l (packet_bytes (end_packet one))) (sym is) (all_is_front (packet_bytes (end_packet one))))
+    inl (subst (λ (l : List ℕ). IsFront l (packet_bytes (end_packet one))) (sym is)
+    (all_is_front (packet_bytes (end_packet one))))
 
 exchanged : IsPermutation (config_of ∷ data_of ∷ []) (data_of ∷ config_of ∷ [])
 exchanged = record { moves = (0, 1) ∷ []; below = (omega arith, omega arith, tt); is = refl }
@@ -137,7 +139,8 @@ unfolding reading_of decoded head_fault word_at channel_limit head_bytes
 were_sent = refl
 
 -- of both channels
-both : (P : Line → Type 0) → P (receives end_bytes) → P (receives (config_packet ++ data_packet ++ end_bytes)) → All P crossed.dest
+both : (P : Line → Type 0) → P (receives end_bytes) → P (receives (config_packet ++ data_packet ++ end_bytes))
+    → All P crossed.dest
 both P first second =
     All-cons P (receives end_bytes) (receives (config_packet ++ data_packet ++ end_bytes) ∷ []) first
     (All-cons P (receives (config_packet ++ data_packet ++ end_bytes)) [] second (All-nil P))
@@ -153,7 +156,8 @@ returns-clause-carries c =
       pieces =
           both (λ line. IsPieceOf (end_packet one ∷ packets_sent one crossed) (piece_in one line.received))
           (end_is_piece (packets_sent one crossed) (piece_in one end_bytes) first_end)
-          (end_is_piece (packets_sent one crossed) (piece_in one (config_packet ++ data_packet ++ end_bytes)) second_end);
+          (end_is_piece (packets_sent one crossed)
+          (piece_in one (config_packet ++ data_packet ++ end_bytes)) second_end);
       ends = both (λ line. line.ended ≡ true → HasEnd one line) (λ ended. first_end) (λ ended. second_end);
       all = λ ended. refl;
       answer = record { front = nothing_is_front []; all = λ ended. refl };
