@@ -20,8 +20,9 @@ use Rattle.vfm_streams.specs.Verdict.{Loads, Verdict}
 use Rattle.vfm_control.specs.declared.frame.Frame.TheVariants as frames
 use Rattle.vfm_control.specs.Frame.{IsDigest, frame_bytes}
 use Rattle.vfm_move.specs.Contact.{Line, Lines}
-use Rattle.vfm_move.specs.Carried.{HasAnswered, IsFront, own_digest, staged_bytes, verdict_frame, verdict_of}
-use Rattle.vfm_move.specs.Complete.{Delivers}
+use Rattle.vfm_move.specs.Table.{WholeGo}
+use Rattle.vfm_move.specs.Carried.{HasAnswered, HasSaidGo, IsFront, go_bytes, own_digest, staged_bytes, verdict_frame, verdict_of}
+use Rattle.vfm_move.specs.Complete.{CarryAll, Delivers}
 use Rattle.vfm_move.specs.Move.{IsHalfway, Stands}
 use Rattle.vfm_move.specs.Undisturbed.{IsCopied, IsWhollyCarried}
 use Rattle.vfm_move.proofs.Undisturbed.{verdict_is_joint}
@@ -126,6 +127,14 @@ copied_from status made stands ended half =
           half.joint
           ∙ ap (λ (b : Bool). if b then Some (joint_machine made.desc (source_past made)) else None) joint;
     }
+
+pub go_all : (made : Made) (lines : Lines) → IsCopied made → CarryAll made.desc lines
+    → HasSaidGo WholeGo made lines.source_control.sent
+    → (44 ≤ length lines.dest_control.received) ⊎ (lines.dest_control.ended ≡ true)
+    → lines.dest_control.received ≡ go_bytes made
+go_all made lines copied carry said =
+    frame_came lines.source_control lines.dest_control (go_bytes made) carry.go said
+    (go_long made.desc.session (own_digest made) (own_is_digest made copied).len)
 
 module _ (made : Made) (lines : Lines) (is : IsWhollyCarried made lines) (answered : HasAnswered made lines) where
   pub answer_is : lines.dest_control.sent ≡ staged_bytes made

@@ -23,7 +23,7 @@ use Rattle.vfm_move.specs.Causes.{Attempt, HasCause, IsRefused, Received}
 use Rattle.vfm_move.specs.Complete.{CarryAll, IsComplete}
 use Rattle.vfm_move.specs.Move.{came_to}
 use Rattle.vfm_move.specs.Undisturbed.{IsCopied, IsReadAndAnswered, IsWhollyCarried}
-use Rattle.vfm_move.proofs.AnswerHeard.{answer_all, frame_came, go_long, own_is_digest, refused_long, staged_long}
+use Rattle.vfm_move.proofs.AnswerHeard.{answer_all, go_all, go_long, own_is_digest, refused_long, staged_long}
 use Rattle.vfm_move.proofs.Undisturbed.{verdict_is_joint}
 
 -- ---- what links tell
@@ -103,13 +103,9 @@ go_heard : (made : Made) (ends : ToldEnds) (lines : Lines) (bytes : List ℕ) �
     → Linked ends ≡ Linked (told_lines lines) → CarryAll made.desc lines → lines.dest_control.received ≡ bytes
     → (44 ≤ length bytes) ⊎ (ends.dest_control.ended ≡ true) → bytes ≡ go_bytes made
 go_heard made ends lines bytes copied said told carry came (inl whole) =
-    sym came ∙ frame_came lines.source_control lines.dest_control (go_bytes made) carry.go said
-    (go_long made.desc.session (own_digest made) (own_is_digest made copied).len)
-    (inl (subst (λ (l : List ℕ). 44 ≤ length l) (sym came) whole))
+    sym came ∙ go_all made lines copied carry said (inl (subst (λ (l : List ℕ). 44 ≤ length l) (sym came) whole))
 go_heard made ends lines bytes copied said told carry came (inr ended) =
-    sym came ∙ frame_came lines.source_control lines.dest_control (go_bytes made) carry.go said
-    (go_long made.desc.session (own_digest made) (own_is_digest made copied).len)
-    (inr (sym (ap (λ (t : Told). t.ended) (dest_told ends lines told)) ∙ ended))
+    sym came ∙ go_all made lines copied carry said (inr (sym (ap (λ (t : Told). t.ended) (dest_told ends lines told)) ∙ ended))
 
 -- fewer bytes than a frame come only where the link ended
 enough : (bytes : List ℕ) (link : Told) → (length bytes < 44 → link.ended ≡ true)

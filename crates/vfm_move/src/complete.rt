@@ -20,7 +20,7 @@ ghost use Rattle.vfm_streams.specs.Sent.{sent};
 ghost use Rattle.vfm_streams.specs.Verdict.{Loads};
 ghost use Rattle.vfm_move.specs.Contact.{Linked, Lines, WhereTold};
 ghost use Rattle.vfm_move.specs.Table.{Whole, WholeGo};
-ghost use Rattle.vfm_move.specs.Carried.{BringsState, ChannelsCarry, HasAnswered, HasSaidGo, IsFront, IsReadOut, ended_due, staged_bytes, verdict_of};
+ghost use Rattle.vfm_move.specs.Carried.{BringsState, ChannelsCarry, HasAnswered, HasSaidGo, IsFront, IsReadOut, ended_due, go_bytes, staged_bytes, verdict_of};
 ghost use Rattle.vfm_move.specs.Causes.{Attempt, HasCause};
 ghost use Rattle.vfm_move.specs.Complete.{CarryAll, IsComplete, end_packet, packets_in, piece_in};
 ghost use Rattle.vfm_move.specs.Move.{IsHalfway, Stands, came_to};
@@ -47,6 +47,15 @@ pub fn undisturbed_machines_are_confirmed()
     ensures heard { (made : Made) (lines : Lines) → IsWhollyCarried made lines → HasAnswered made lines
         → (44 ≤ length lines.source_control.received) ⊎ (lines.source_control.ended ≡ true)
         → lines.source_control.received ≡ staged_bytes made }
+{}
+
+/// Where the links carry all that is sent, the destination hears Go as it was said, as soon as it hears 44 bytes or the
+/// link's end.
+pub fn go_comes_as_it_was_said()
+    ensures { (made : Made) (lines : Lines) → IsCopied made → CarryAll made.desc lines
+        → HasSaidGo WholeGo made lines.source_control.sent
+        → (44 ≤ length lines.dest_control.received) ⊎ (lines.dest_control.ended ≡ true)
+        → lines.dest_control.received ≡ go_bytes made }
 {}
 
 /// Where everything was copied and sent, and the destination read its channels out and answered: if the links carry all
