@@ -105,7 +105,8 @@ go_heard : (made : Made) (ends : ToldEnds) (lines : Lines) (bytes : List ℕ) �
 go_heard made ends lines bytes copied said told carry came (inl whole) =
     sym came ∙ go_all made lines copied carry said (inl (subst (λ (l : List ℕ). 44 ≤ length l) (sym came) whole))
 go_heard made ends lines bytes copied said told carry came (inr ended) =
-    sym came ∙ go_all made lines copied carry said (inr (sym (ap (λ (t : Told). t.ended) (dest_told ends lines told)) ∙ ended))
+    sym came
+    ∙ go_all made lines copied carry said (inr (sym (ap (λ (t : Told). t.ended) (dest_told ends lines told)) ∙ ended))
 
 -- fewer bytes than a frame come only where the link ended
 enough : (bytes : List ℕ) (link : Told) → (length bytes < 44 → link.ended ≡ true)
