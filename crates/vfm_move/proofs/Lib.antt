@@ -6,6 +6,9 @@ pub mod HeardOnce
 pub mod Failing
 pub mod Unanswered
 pub mod Confirmed
+pub mod Undisturbed
+pub mod AnswerHeard
+pub mod NotRefused
 pub mod Answered
 pub mod Gone
 pub mod GoSaid
