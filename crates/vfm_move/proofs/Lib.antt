@@ -13,3 +13,4 @@ pub mod Answered
 pub mod Gone
 pub mod GoSaid
 pub mod Ended
+pub mod Carrying

@@ -4,22 +4,24 @@
 ghost use Rattle.std.specs.Prelude.{◌≡◌, ◌⊎◌, ℕ, ◌≤◌, All, IsTrue, List, length, true};
 ghost use Rattle.std.specs.Option.{IsSomeAnd};
 ghost use Rattle.vfm_types.specs.declared.fault.Refusal.{Refusal};
+ghost use Rattle.vfm_types.specs.declared.desc.Desc.{Desc};
 ghost use Rattle.vfm_types.specs.Deliveries.{joint_machine};
 ghost use Rattle.vfm_types.specs.Valid.{IsValid};
 ghost use Rattle.vfm_outside.specs.Links.{ToldEnds};
 ghost use Rattle.vfm_plain.specs.Ended.{is_last_ended};
+ghost use Rattle.vfm_plain.specs.Legal.{IsLegal};
 ghost use Rattle.vfm_plain.specs.Report.{Made, source_past};
 ghost use Rattle.vfm_status.specs.declared.status.Doubt.TheVariants.{NoGo, Other};
 ghost use Rattle.vfm_status.specs.declared.status.Status.{Status};
 ghost use Rattle.vfm_status.specs.declared.status.Status.TheVariants.{Differs, InDoubt, NoControl, Refused, Unconfirmed};
 ghost use Rattle.vfm_streams.specs.Verdict.{Loads};
 ghost use Rattle.vfm_move.specs.Contact.{Linked, Lines, WhereTold};
-ghost use Rattle.vfm_move.specs.Table.{WholeGo};
-ghost use Rattle.vfm_move.specs.Carried.{BringsState, HasAnswered, HasSaidGo, IsFront, IsReadOut, staged_bytes, verdict_of};
+ghost use Rattle.vfm_move.specs.Table.{Whole, WholeGo};
+ghost use Rattle.vfm_move.specs.Carried.{BringsState, ChannelsCarry, HasAnswered, HasSaidGo, IsFront, IsReadOut, staged_bytes, verdict_of};
 ghost use Rattle.vfm_move.specs.Causes.{Attempt, HasCause};
 ghost use Rattle.vfm_move.specs.Complete.{CarryAll, IsComplete};
 ghost use Rattle.vfm_move.specs.Move.{IsHalfway, Stands, came_to};
-ghost use Rattle.vfm_move.specs.Undisturbed.{IsCopied, IsReadAndAnswered, IsWhollyCarried};
+ghost use Rattle.vfm_move.specs.Undisturbed.{AreUnread, CameAsSent, IsCopied, IsReadAndAnswered, IsWhollyCarried};
 
 /// A source that stands and whose last pass has ended has copied everything.
 pub fn halfway_moves_are_copied()
@@ -81,4 +83,15 @@ pub fn doubts_of_go_are_complete()
         → WhereTold (Linked ends) (λ lines. HasSaidGo WholeGo made lines.source_control.sent)
         → HasCause (InDoubt (Other ours theirs)) attempt (came_to (InDoubt (Other ours theirs)) made ends)
         → IsComplete attempt made (came_to (InDoubt (Other ours theirs)) made ends) }
+{}
+
+/// Links that bring everything as it was sent carry all that is sent.
+pub fn links_as_sent_carry_all()
+    ensures { (made : Made) (lines : Lines) → IsValid made.desc → IsLegal made.desc (source_past made)
+        → ChannelsCarry Whole made lines → CameAsSent lines → CarryAll made.desc lines }
+{}
+
+/// So do links from which nothing was read yet: an end that reads nothing doesn't disturb them.
+pub fn unread_links_carry_all()
+    ensures { (D : Desc) (lines : Lines) → IsValid D → AreUnread lines → CarryAll D lines }
 {}

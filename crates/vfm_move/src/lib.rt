@@ -7,3 +7,5 @@ pub mod ends;
 pub mod laws;
 pub mod steps;
 pub mod worked;
+pub mod worked_ends;
+pub mod worked_links;
