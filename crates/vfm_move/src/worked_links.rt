@@ -1,10 +1,12 @@
-//! Worked channels, each checked by computation: what is whole in what came, and links that don't carry all that is sent.
+//! Worked channels, each checked by computation: what is whole in what came, and links that carry all that is sent or
+//! don't.
 
-ghost use Rattle.std.specs.Prelude.{◌≡◌, ◌++◌, ◌∷◌, [], map, take};
+ghost use Rattle.std.specs.Prelude.{◌≡◌, ◌++◌, ◌∷◌, [], length, map, take};
 ghost use Rattle.vfm_packet.specs.Worked.{config_packet, data_packet, end_packet};
-ghost use Rattle.vfm_move.specs.Complete.{CarryAll, HasEnd, packets_in, piece_in};
-ghost use Rattle.vfm_move.specs.Worked.{one};
-ghost use Rattle.vfm_move.specs.WorkedLinks.{links, receives, sends, whole_bytes};
+ghost use Rattle.vfm_move.specs.Carried.{ended_due};
+ghost use Rattle.vfm_move.specs.Complete.{CarryAll, HasEnd, packets_in, packets_received, packets_sent, piece_in};
+ghost use Rattle.vfm_move.specs.Worked.{one, one_moved};
+ghost use Rattle.vfm_move.specs.WorkedLinks.{config_of, crossed, data_of, links, receives, sends, whole_bytes};
 
 /// Both packets and the one that ends the channel.
 pub fn whole_channel()
@@ -35,8 +37,26 @@ pub fn nothing_came()
     ensures no_end { HasEnd one (receives []) → ⊥ }
 {}
 
-/// Links that don't carry all: a packet came twice; one was lost; another one came; a channel ended without the packet that
-/// ends it, or in a packet.
+/// Two packets that were sent on a channel each, and came on the second channel, in the other order: that is all of
+/// them.
+pub fn packets_in_another_order()
+    ensures received { packets_received one crossed ≡ config_of ∷ data_of ∷ [] }
+    ensures sent { packets_sent one crossed ≡ data_of ∷ config_of ∷ [] }
+    ensures carries { CarryAll one crossed }
+{}
+
+/// The channel of the worked move is six packets and the one that ends it; of its first 100 bytes the first 61 are a
+/// packet, and the others a piece of the second.
+pub fn worked_channel()
+    ensures packets { map (λ p. p.head.length) (packets_in one (ended_due one_moved 0))
+        ≡ 21 ∷ 21 ∷ 69 ∷ 33 ∷ 81 ∷ 33 ∷ [] }
+    ensures end { HasEnd one (receives (ended_due one_moved 0)) }
+    ensures cut { map (λ p. p.head.length) (packets_in one (take 100 (ended_due one_moved 0))) ≡ 21 ∷ [] }
+    ensures piece { length (piece_in one (take 100 (ended_due one_moved 0))) ≡ 39 }
+{}
+
+/// Links that don't carry all: a packet came twice; one was lost; another one came; a channel ended without the packet
+/// that ends it, or in a packet.
 pub fn disturbed_links()
     ensures doubled { CarryAll one (links (sends (data_packet ++ end_packet) ∷ [])
         (receives (data_packet ++ data_packet ++ end_packet) ∷ [])) → ⊥ }

@@ -29,18 +29,21 @@ first_byte : Packet → ℕ
 first_byte p = slice_index p.payload 0
 
 sums : (lines : Lines) (all : CarryAll one lines)
-    → sum_by first_byte (packets_sent one lines) ≡ sum_by first_byte (packets_received one lines) + sum_by first_byte all.missing
+    → sum_by first_byte (packets_sent one lines)
+    ≡ sum_by first_byte (packets_received one lines) + sum_by first_byte all.missing
 sums lines all =
     sum_by-IsPermutation first_byte (packets_received one lines ++ all.missing) (packets_sent one lines) all.among
     ∙ sum_by-append first_byte (packets_received one lines) all.missing
 
 only_ended : (bytes : List ℕ) → All (λ line. line.ended ≡ true) (receives bytes ∷ [])
-only_ended bytes = All-cons (λ (line : Line). line.ended ≡ true) (receives bytes) [] refl (All-nil (λ (line : Line). line.ended ≡ true))
+only_ended bytes =
+    All-cons (λ (line : Line). line.ended ≡ true) (receives bytes) [] refl (All-nil (λ (line : Line). line.ended ≡ true))
 
 pub returns-clause-doubled : goal.returns-clause-doubled
 unfolding reading_of decoded head_fault word_at channel_limit head_bytes
 returns-clause-doubled c all =
-    let same = count (links (sends (data_packet ++ end_packet) ∷ []) (receives (data_packet ++ data_packet ++ end_packet) ∷ [])) all in
+    let same = count (links (sends (data_packet ++ end_packet) ∷ [])
+    (receives (data_packet ++ data_packet ++ end_packet) ∷ [])) all in
     absurd (omega (arith, same))
 
 pub returns-clause-lost : goal.returns-clause-lost
@@ -53,16 +56,19 @@ returns-clause-lost c all =
 pub returns-clause-other : goal.returns-clause-other
 unfolding reading_of decoded head_fault word_at channel_limit head_bytes first_byte
 returns-clause-other c all =
-    let same = sums (links (sends (data_packet ++ end_packet) ∷ []) (receives (config_packet ++ end_packet) ∷ [])) all in
+    let same = sums (links (sends (data_packet ++ end_packet) ∷ [])
+    (receives (config_packet ++ end_packet) ∷ [])) all in
     absurd (omega (arith, same))
 
 pub returns-clause-no_end : goal.returns-clause-no_end
 unfolding reading_of decoded head_fault word_at channel_limit head_bytes
 returns-clause-no_end c all =
-    let long = ap (length {A = ℕ}) (all.ends 0 (receives (take 83 whole_bytes)) (omega arith) refl) in absurd (omega (arith, long))
+    let long = ap (length {A = ℕ}) (all.ends 0 (receives (take 83 whole_bytes)) (omega arith) refl) in
+    absurd (omega (arith, long))
 
 pub returns-clause-cut : goal.returns-clause-cut
 unfolding reading_of decoded head_fault word_at channel_limit head_bytes
 returns-clause-cut c all =
-    let kind : 2 ≡ 3 = ap (λ (bytes : List ℕ). slice_index bytes 7) (all.ends 0 (receives (take 82 whole_bytes)) (omega arith) refl) in
+    let kind : 2 ≡ 3 = ap (λ (bytes : List ℕ). slice_index bytes 7)
+    (all.ends 0 (receives (take 82 whole_bytes)) (omega arith) refl) in
     absurd (omega (arith, kind))

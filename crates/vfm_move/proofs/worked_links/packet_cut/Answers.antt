@@ -18,4 +18,5 @@ returns-clause-piece c = refl
 
 pub returns-clause-no_end : goal.returns-clause-no_end
 unfolding reading_of decoded head_fault word_at channel_limit head_bytes
-returns-clause-no_end c has = let kind : 2 ≡ 3 = ap (λ (bytes : List ℕ). slice_index bytes 7) has in absurd (omega (arith, kind))
+returns-clause-no_end c has =
+    let kind : 2 ≡ 3 = ap (λ (bytes : List ℕ). slice_index bytes 7) has in absurd (omega (arith, kind))
