@@ -16,32 +16,18 @@ use Rattle.vfm_control.proofs.Encoded.{again}
 use Rattle.vfm_handshake.specs.Control.{IsNoAnswer, IsNoGo}
 use Rattle.vfm_status.specs.declared.status.Doubt.TheVariants.{NoGo as NoGoCame, Other}
 use Rattle.vfm_status.specs.declared.status.Status.TheVariants.{Differs, InDoubt, NoControl, Refused, Unconfirmed}
-use Rattle.vfm_move.specs.Contact.{Line, Lines, Linked, WhereTold, told_line, told_lines}
+use Rattle.vfm_move.specs.Contact.{Lines, Linked, WhereTold, told_line, told_lines}
 use Rattle.vfm_move.specs.Table.{WholeGo}
 use Rattle.vfm_move.specs.Carried.{BringsState, HasSaidGo, go_bytes, own_digest, staged_bytes, verdict_of}
-use Rattle.vfm_move.specs.Causes.{Attempt, HasCause, IsRefused, Received}
+use Rattle.vfm_move.specs.Causes.{Attempt, HasCause, IsRefused}
 use Rattle.vfm_move.specs.Complete.{CarryAll, IsComplete}
 use Rattle.vfm_move.specs.Move.{came_to}
 use Rattle.vfm_move.specs.Undisturbed.{IsCopied, IsReadAndAnswered, IsWhollyCarried}
 use Rattle.vfm_move.proofs.AnswerHeard.{answer_all, go_all, go_long, own_is_digest, refused_long, staged_long}
+use Rattle.vfm_move.proofs.Brought.{dest_line, linked_once, received_line, source_line}
 use Rattle.vfm_move.proofs.Undisturbed.{verdict_is_joint}
 
 -- ---- what links tell
-
-told_once : (one other : ToldEnds) → Linked one ≡ Linked other → one ≡ other
-told_once one other same = cc
-
-source_told : (ends : ToldEnds) (lines : Lines) → Linked ends ≡ Linked (told_lines lines)
-    → ends.source_control ≡ told_line lines.source_control
-source_told ends lines told = ap (λ (e : ToldEnds). e.source_control) (told_once ends (told_lines lines) told)
-
-dest_told : (ends : ToldEnds) (lines : Lines) → Linked ends ≡ Linked (told_lines lines)
-    → ends.dest_control ≡ told_line lines.dest_control
-dest_told ends lines told = ap (λ (e : ToldEnds). e.dest_control) (told_once ends (told_lines lines) told)
-
-came_is : (link : Told) (line : Line) (bytes : List ℕ) → link ≡ told_line line → Received link bytes
-    → line.received ≡ bytes
-came_is link line bytes is came = subst (λ (t : Told). Received t bytes) is came
 
 pub wholly : (made : Made) (ends : ToldEnds) (lines : Lines) → IsReadAndAnswered made ends
     → Linked ends ≡ Linked (told_lines lines)
@@ -52,7 +38,7 @@ wholly made ends lines is told carry =
       copied = is.copied;
       channels =
           sym (length-map lines.source told_line)
-          ∙ sym (ap (λ (e : ToldEnds). length e.source) (told_once ends (told_lines lines) told)) ∙ is.channels;
+          ∙ sym (ap (λ (e : ToldEnds). length e.source) (linked_once ends (told_lines lines) told)) ∙ is.channels;
       sent = is.sent lines told;
       carry = carry;
     }
@@ -95,7 +81,7 @@ own_heard made ends lines bytes is told carry came (inl whole) =
     (inl (subst (λ (l : List ℕ). 44 ≤ length l) (sym came) whole))
 own_heard made ends lines bytes is told carry came (inr ended) =
     sym came ∙ answer_all made lines (wholly made ends lines is told carry) (is.answered lines told)
-    (inr (sym (ap (λ (t : Told). t.ended) (source_told ends lines told)) ∙ ended))
+    (inr (sym (ap (λ (t : Told). t.ended) (source_line ends lines told)) ∙ ended))
 
 -- the destination hears Go as it was said
 go_heard : (made : Made) (ends : ToldEnds) (lines : Lines) (bytes : List ℕ) → IsCopied made
@@ -106,7 +92,7 @@ go_heard made ends lines bytes copied said told carry came (inl whole) =
     sym came ∙ go_all made lines copied carry said (inl (subst (λ (l : List ℕ). 44 ≤ length l) (sym came) whole))
 go_heard made ends lines bytes copied said told carry came (inr ended) =
     sym came
-    ∙ go_all made lines copied carry said (inr (sym (ap (λ (t : Told). t.ended) (dest_told ends lines told)) ∙ ended))
+    ∙ go_all made lines copied carry said (inr (sym (ap (λ (t : Told). t.ended) (dest_line ends lines told)) ∙ ended))
 
 -- fewer bytes than a frame come only where the link ended
 enough : (bytes : List ℕ) (link : Told) → (length bytes < 44 → link.ended ≡ true)
@@ -141,9 +127,9 @@ pub unconfirmed_complete : (attempt : Attempt) (made : Made) (ends : ToldEnds) (
     → HasCause (Unconfirmed ours theirs) attempt (came_to (Unconfirmed ours theirs) made ends)
     → IsComplete attempt made (came_to (Unconfirmed ours theirs) made ends)
 unconfirmed_complete attempt made ends ours theirs is cause = λ moves never quiet un.
-    let came = came_is ends.source_control un.told.lines.source_control
+    let came = received_line ends.source_control un.told.lines.source_control
     (frame_bytes (frames.Staged made.desc.session theirs))
-    (source_told ends un.told.lines un.told.told) cause.1 in
+    (source_line ends un.told.lines un.told.told) cause.1 in
     let long : 44 ≤ length (frame_bytes (frames.Staged made.desc.session theirs)) =
     omega (arith, staged_long made.desc.session theirs cause.0.digest.len) in
     absurd (cause.0.other
@@ -157,8 +143,8 @@ pub no_control_complete : (attempt : Attempt) (made : Made) (ends : ToldEnds) (h
     → HasCause (NoControl heard) attempt (came_to (NoControl heard) made ends)
     → IsComplete attempt made (came_to (NoControl heard) made ends)
 no_control_complete attempt made ends heard is cause = λ moves never quiet un.
-    let came = came_is ends.source_control un.told.lines.source_control heard
-    (source_told ends un.told.lines un.told.told) cause.came in
+    let came = received_line ends.source_control un.told.lines.source_control heard
+    (source_line ends un.told.lines un.told.told) cause.came in
     let own = own_heard made ends un.told.lines heard is un.told.told un.carry came
     (enough heard ends.source_control cause.cut) in
     let frame : IsFrame (frames.Staged made.desc.session (own_digest made)) =
@@ -196,8 +182,8 @@ pub no_go_complete : (attempt : Attempt) (made : Made) (ends : ToldEnds) (heard 
     → HasCause (InDoubt (NoGoCame heard)) attempt (came_to (InDoubt (NoGoCame heard)) made ends)
     → IsComplete attempt made (came_to (InDoubt (NoGoCame heard)) made ends)
 no_go_complete attempt made ends heard valid copied said cause = λ moves never quiet un.
-    let came = came_is ends.dest_control un.told.lines.dest_control heard
-    (dest_told ends un.told.lines un.told.told) cause.came in
+    let came = received_line ends.dest_control un.told.lines.dest_control heard
+    (dest_line ends un.told.lines un.told.told) cause.came in
     let own = go_heard made ends un.told.lines heard copied (said un.told.lines un.told.told) un.told.told un.carry came
     (enough heard ends.dest_control cause.cut) in
     let frame : IsFrame (frames.Go made.desc.session (own_digest made)) =
@@ -210,8 +196,8 @@ pub other_go_complete : (attempt : Attempt) (made : Made) (ends : ToldEnds) (our
     → HasCause (InDoubt (Other ours theirs)) attempt (came_to (InDoubt (Other ours theirs)) made ends)
     → IsComplete attempt made (came_to (InDoubt (Other ours theirs)) made ends)
 other_go_complete attempt made ends ours theirs copied said cause = λ moves never quiet un.
-    let came = came_is ends.dest_control un.told.lines.dest_control (frame_bytes (frames.Go made.desc.session theirs))
-    (dest_told ends un.told.lines un.told.told) cause.1 in
+    let came = received_line ends.dest_control un.told.lines.dest_control (frame_bytes (frames.Go made.desc.session theirs))
+    (dest_line ends un.told.lines un.told.told) cause.1 in
     let long : 44 ≤ length (frame_bytes (frames.Go made.desc.session theirs)) =
     omega (arith, go_long made.desc.session theirs cause.0.digest.len) in
     absurd (cause.0.other

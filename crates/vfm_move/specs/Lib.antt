@@ -5,6 +5,8 @@ pub mod Carried
 pub mod Causes
 pub mod Complete
 pub mod Move
+pub mod Answered
 pub mod Undisturbed
 pub mod Worked
+pub mod WorkedEnds
 pub mod WorkedLinks

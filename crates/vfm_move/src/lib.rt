@@ -3,7 +3,9 @@
 #![tactic(auto)]
 
 pub mod complete;
+pub mod ends;
 pub mod laws;
 pub mod steps;
 pub mod worked;
+pub mod worked_ends;
 pub mod worked_links;
