@@ -196,7 +196,8 @@ pub other_go_complete : (attempt : Attempt) (made : Made) (ends : ToldEnds) (our
     → HasCause (InDoubt (Other ours theirs)) attempt (came_to (InDoubt (Other ours theirs)) made ends)
     → IsComplete attempt made (came_to (InDoubt (Other ours theirs)) made ends)
 other_go_complete attempt made ends ours theirs copied said cause = λ moves never quiet un.
-    let came = received_line ends.dest_control un.told.lines.dest_control (frame_bytes (frames.Go made.desc.session theirs))
+    let came = received_line ends.dest_control un.told.lines.dest_control (frame_bytes
+    (frames.Go made.desc.session theirs))
     (dest_line ends un.told.lines un.told.told) cause.1 in
     let long : 44 ≤ length (frame_bytes (frames.Go made.desc.session theirs)) =
     omega (arith, go_long made.desc.session theirs cause.0.digest.len) in
