@@ -4,7 +4,7 @@ use Rattle.vfm_top.proofs.Promises.{without_form, with_audit, with_path}
 use Rattle.vfm_top.proofs.call.local.Goals as goal
 
 pub returns-in_default-clause-promises : goal.returns-in_default-clause-promises
-returns-in_default-clause-promises g c = λ wires. without_form _ (sym c.read_words.ensures ∙ c.in_default.is) refl refl refl c.print_report.ensures
+returns-in_default-clause-promises g c = λ wires. without_form _ (sym c.read_words.ensures ∙ c.in_default.is) refl refl refl c.print_line.ensures
 
 pub returns-in-Paths-clause-promises : goal.returns-in-Paths-clause-promises
 returns-in-Paths-clause-promises g c = λ wires.
