@@ -1,42 +1,28 @@
 -- Once the destination confirmed the source's own state, nothing that can be seen brings another status than what becomes of Go.
-use Rattle.std.proofs.Common.{◌≡◌, ◌≢◌, ℕ, List, ◌++◌, Option, Some, None, sym, ap, ◌∙◌, subst, arith}
-use Rattle.std.proofs.lemmas.List.{append_cancel_left}
-use Rattle.std.specs.Int.{w32, w64, to_be_bytes}
+use Rattle.std.proofs.Common.{◌≡◌, ◌≢◌, Option, Some, None, Result, Ok, sym, ◌∙◌, subst, arith}
+use Rattle.std.specs.Prelude.{⊤}
 use Rattle.std.specs.Option.{IsSomeAnd}
 use Rattle.vfm_types.specs.Machine.{Machine}
 use Rattle.vfm_outside.specs.Counts.{Rose}
 use Rattle.vfm_outside.specs.Links.{ToldEnds}
 use Rattle.vfm_streams.specs.Verdict.{Verdict, Loads}
-use Rattle.vfm_control.specs.declared.frame.Frame.TheVariants as frames
-use Rattle.vfm_control.specs.Frame.{IsFrame, frame_at, frame_bytes}
-use Rattle.vfm_control.proofs.Encoded.{again}
-use Rattle.vfm_handshake.specs.Control.{IsNoAnswer}
+use Rattle.vfm_handshake.specs.declared.fault.GoFault.{GoFault}
+use Rattle.vfm_handshake.specs.declared.fault.SettleFault.{SettleFault}
 use Rattle.vfm_plain.specs.Report.{Made}
-use Rattle.vfm_status.specs.declared.status.Doubt.TheVariants.{Send, Read, NoGo as NoGoCame, Other}
+use Rattle.vfm_status.specs.declared.status.Doubt.TheVariants.{Send, Read}
 use Rattle.vfm_status.specs.declared.status.Status.{Status}
-use Rattle.vfm_status.specs.declared.status.Status.TheVariants.{Unconfirmed, InDoubt, Differs, Aborted, ArcFailed, NoControl}
+use Rattle.vfm_status.specs.declared.status.Status.TheVariants.{InDoubt}
+use Rattle.vfm_move.specs.Contact.{Lines, Linked, told_lines}
 use Rattle.vfm_move.specs.Table.{FrontOfGo, GoSent, WholeGo}
-use Rattle.vfm_move.specs.Carried.{own_digest, verdict_of}
-use Rattle.vfm_move.specs.Causes.{Attempt, Brings}
+use Rattle.vfm_move.specs.Carried.{verdict_of}
+use Rattle.vfm_move.specs.Causes.{Attempt, Brings, BroughtAnother}
 use Rattle.vfm_move.specs.Move.{IsConfirmed, IsDecided, IsHalfway, IsUnheard, came_to}
-use Rattle.vfm_move.proofs.Unanswered.{dest_line, none_rose, received_line, received_little, source_line, went_on_no_end, whole_go}
-
--- frames of one kind and session with the same bytes have the same digest
-same_digest : (session : ℕ) (ours theirs : List ℕ) → frame_bytes (frames.Staged session ours) ≡ frame_bytes (frames.Staged session theirs)
-    → ours ≡ theirs
-unfolding frame_bytes
-same_digest session ours theirs same =
-    append_cancel_left (to_be_bytes w64 session) ours theirs
-    (append_cancel_left (to_be_bytes w32 0x56464d53) (to_be_bytes w64 session ++ ours) (to_be_bytes w64 session ++ theirs) same)
-
--- the own frame is an answer
-is_answer : (session : ℕ) (own heard : List ℕ) → IsFrame (frames.Staged session own) → heard ≡ frame_bytes (frames.Staged session own)
-    → IsNoAnswer (frame_at session heard) → ⊥
-is_answer session own heard frame is none =
-    subst IsNoAnswer (ap (frame_at session) is ∙ again (frames.Staged session own) frame) none
+use Rattle.vfm_move.proofs.Brought.{IsBrought, due, arc, answer, go, HeardAnswer, HeardGo, brought_by, dest_line, go_cut, gone_status}
+use Rattle.vfm_move.proofs.HeardOnce.{one_answer, own_settled}
+use Rattle.vfm_move.proofs.Unanswered.{none_rose, unheard_line}
 
 -- one verdict loads one machine
-one_machine : (joint : Option Machine) (verdict : Verdict) (machine : Machine) → IsSomeAnd joint (λ m. verdict ≡ Loads m)
+pub one_machine : (joint : Option Machine) (verdict : Verdict) (machine : Machine) → IsSomeAnd joint (λ m. verdict ≡ Loads m)
     → verdict ≡ Loads machine → IsSomeAnd joint (λ m. machine ≢ m) → ⊥
 one_machine None verdict machine loads other differs = loads
 one_machine (Some m) verdict machine loads other differs = differs (loaded_once (sym other ∙ loads))
@@ -44,36 +30,33 @@ one_machine (Some m) verdict machine loads other differs = differs (loaded_once 
     loaded_once : Loads machine ≡ Loads m → machine ≡ m
     loaded_once same = cc
 
-pub confirmed_brings_nothing : (brought at : Status) (go : GoSent) (attempt : Attempt) (made : Made) (ends : ToldEnds) → IsConfirmed go attempt made ends
-    → IsUnheard ends.dest_control → Brings brought attempt (came_to at made ends) → ⊥
-confirmed_brings_nothing (Unconfirmed ours theirs) at go attempt made ends is unheard brings =
-    let lines = brings.0.lines in
-    let told = brings.0.told in
-    let heard = (is.carried lines told).heard in
-    let other = received_line ends.source_control lines.source_control (frame_bytes (frames.Staged made.desc.session theirs))
-    (source_line ends lines told) brings.1.1 in
-    brings.1.0.other (sym (same_digest made.desc.session (own_digest made) theirs (sym heard ∙ other)) ∙ sym brings.1.0.own)
-confirmed_brings_nothing (NoControl heard) at go attempt made ends is unheard brings =
-    let lines = brings.0.lines in
-    let told = brings.0.told in
-    let came = received_line ends.source_control lines.source_control heard (source_line ends lines told) brings.1.came in
-    is_answer made.desc.session (own_digest made) heard is.frame (sym came ∙ (is.carried lines told).heard) brings.1.other
-confirmed_brings_nothing Differs at go attempt made ends is unheard brings =
-    let carried = is.carried brings.0.lines brings.0.told in
-    one_machine made.joint (verdict_of made brings.0.lines) brings.1.machine carried.state brings.1.brought brings.1.another
-confirmed_brings_nothing (InDoubt (NoGoCame heard)) at go attempt made ends is unheard brings =
-    went_on_no_end ends.dest_control heard unheard
-    (received_little ends.dest_control brings.0.lines.dest_control heard (dest_line ends brings.0.lines brings.0.told) unheard brings.1.came)
-    brings.1.cut
-confirmed_brings_nothing (InDoubt (Other ours theirs)) at go attempt made ends is unheard brings =
-    whole_go made.desc.session theirs brings.1.0.digest.len
-    (received_little ends.dest_control brings.0.lines.dest_control (frame_bytes (frames.Go made.desc.session theirs))
-    (dest_line ends brings.0.lines brings.0.told) unheard brings.1.1)
-confirmed_brings_nothing (Aborted pass) at go attempt made ends is unheard brings = is.unhindered.no_abort_due pass brings
-confirmed_brings_nothing (ArcFailed d to) at go attempt made ends is unheard brings = is.unhindered.no_arc_failed d to brings
-confirmed_brings_nothing (InDoubt Send) at go attempt made ends is unheard brings = brings
-confirmed_brings_nothing (InDoubt Read) at go attempt made ends is unheard brings = brings
-confirmed_brings_nothing brought at go attempt made ends is unheard brings = brings
+-- what a confirmed source heard is its own digest, and the machines don't differ: nothing heard there brings a status
+answer_brings_none : (go_sent : GoSent) (attempt : Attempt) (made : Made) (ends : ToldEnds) → IsConfirmed go_sent attempt made ends → (lines : Lines)
+    (result : Result ⊤ SettleFault) → Linked ends ≡ Linked (told_lines lines) → HeardAnswer made lines result → ⊥
+answer_brings_none go_sent attempt made ends is lines result told heard =
+    let carried = is.carried lines told in
+    let same = one_answer made lines (Ok tt) result is.frame (own_settled made lines.source_control.received is.frame carried.heard) heard in
+    differs carried.state (subst (λ (r : Result ⊤ SettleFault). HeardAnswer made lines r) (sym same) heard)
+  where
+    differs : IsSomeAnd made.joint (λ m. verdict_of made lines ≡ Loads m) → BroughtAnother made lines → ⊥
+    differs state other = one_machine made.joint (verdict_of made lines) other.machine state other.brought other.another
+
+-- Where a confirmed move brings a status, that is what was heard of Go.
+pub go_brings : (brought : Status) (go_sent : GoSent) (attempt : Attempt) (made : Made) (ends : ToldEnds) → IsConfirmed go_sent attempt made ends
+    → IsBrought brought attempt made ends
+    → (lines : Lines) × (result : Result ⊤ GoFault) × (Linked ends ≡ Linked (told_lines lines)) × (gone_status result ≡ brought) × HeardGo made lines result
+go_brings brought go_sent attempt made ends is (due pass same abort) = absurd (is.unhindered.no_abort_due pass abort)
+go_brings brought go_sent attempt made ends is (arc d to same has) = absurd (is.unhindered.no_arc_failed d to has)
+go_brings brought go_sent attempt made ends is (answer lines result told same heard) =
+    absurd (answer_brings_none go_sent attempt made ends is lines result told heard)
+go_brings brought go_sent attempt made ends is (go lines result told same heard) = (lines, result, told, same, heard)
+
+-- and where less than a whole frame came of it, nothing brings one
+unheard_brings_none : (brought at : Status) (go_sent : GoSent) (attempt : Attempt) (made : Made) (ends : ToldEnds)
+    → IsConfirmed go_sent attempt made ends → IsUnheard ends.dest_control → Brings brought attempt (came_to at made ends) → ⊥
+unheard_brings_none brought at go_sent attempt made ends is unheard brings =
+    let came = go_brings brought go_sent attempt made ends is (brought_by brought at attempt made ends brings) in
+    unheard_line ends.dest_control came.0.dest_control (dest_line ends came.0 came.2) unheard (go_cut made came.0 came.1 came.4)
 
 -- Go failed to be sent
 pub go_failed : (attempt : Attempt) (made : Made) (ends : ToldEnds) → IsConfirmed FrontOfGo attempt made ends → IsHalfway (InDoubt Send) made
@@ -85,7 +68,7 @@ go_failed attempt made ends is half unheard failed =
       copied = λ neither. is.copied;
       explained = record {
         cause = failed;
-        exact = λ brought brings. absurd (confirmed_brings_nothing brought (InDoubt Send) FrontOfGo attempt made ends is unheard brings);
+        exact = λ brought brings. absurd (unheard_brings_none brought (InDoubt Send) FrontOfGo attempt made ends is unheard brings);
       };
       carried = λ lines told.
           let carried = is.carried lines told in
@@ -107,7 +90,7 @@ go_unread attempt made ends is half unheard failed =
       copied = λ neither. is.copied;
       explained = record {
         cause = failed;
-        exact = λ brought brings. absurd (confirmed_brings_nothing brought (InDoubt Read) WholeGo attempt made ends is unheard brings);
+        exact = λ brought brings. absurd (unheard_brings_none brought (InDoubt Read) WholeGo attempt made ends is unheard brings);
       };
       carried = λ lines told.
           let carried = is.carried lines told in

@@ -1,5 +1,5 @@
 -- What stands of a decided move once its source has given up and gone on: its cause, what the links carried, and its parts.
-use Rattle.std.proofs.Common.{◌≡◌, ◌⊎◌, ℕ, zero, suc, ◌<◌, Bool, true, false, List, [], ◌∷◌, ◌++◌, Option, Some, None, IfSome, is_some, Contains, slice_get, reverse, refl, sym, ap, ◌∙◌, subst, inl, inr, IsTrue, append-nil, arith}
+use Rattle.std.proofs.Common.{◌≡◌, ◌⊎◌, ℕ, ◌<◌, Bool, true, false, List, [], ◌∷◌, ◌++◌, Option, Some, None, IfSome, is_some, Contains, slice_get, reverse, refl, sym, ap, ◌∙◌, subst, inl, inr, IsTrue, append-nil}
 use Rattle.std.proofs.lemmas.List.{reverse-reverse}
 use Rattle.std.proofs.lemmas.List.Elements.{Contains-append_cases, Contains-append_right}
 use Rattle.vfm_types.specs.declared.desc.Desc.{Desc}
@@ -26,6 +26,7 @@ use Rattle.vfm_laws.proofs.JointStop.{joint_exists}
 use Rattle.vfm_streams.specs.Packets.{lane_packets, share}
 use Rattle.vfm_streams.specs.Sent.{Sent}
 use Rattle.vfm_move_laws.proofs.AfterAbort.{all_kept, none_fails}
+use Rattle.vfm_move_laws.proofs.FailedArcs.{is_it}
 use Rattle.vfm_move_laws.specs.Copies.{KeepsCopies}
 use Rattle.vfm_status.specs.declared.status.Doubt.TheVariants.{Send, Read, NoGo as NoGoCame, Other}
 use Rattle.vfm_status.specs.declared.status.Status.{Status}
@@ -41,17 +42,13 @@ use Rattle.vfm_move.specs.Move.{GoesOn, HasEnded, IsDecided, IsHalfway, came_to,
 -- ---- the journal
 
 -- what an abort leaves as it was
-kept : (D : Desc) (before later : List Entry) (final : Machine) → GoesOn D before later final → KeepsCopies D before later
+pub kept : (D : Desc) (before later : List Entry) (final : Machine) → GoesOn D before later final → KeepsCopies D before later
 kept D before later final goes =
     subst (λ (l : List Entry). KeepsCopies D before l) (sym goes.journal)
     (all_kept D before goes.more (subst (λ (l : List Entry). IsLegal D l) goes.journal goes.legal))
 
-passed_same : (D : Desc) (n : ℕ) (before later : List Entry) → KeepsCopies D before later → has_passed D n later ≡ has_passed D n before
+pub passed_same : (D : Desc) (n : ℕ) (before later : List Entry) → KeepsCopies D before later → has_passed D n later ≡ has_passed D n before
 passed_same D n before later keeps = rw (keeps.passes, keeps.ended) refl
-
-is_it : {X : Type 0} (y x : X) → Contains (y ∷ []) x → y ≡ x
-is_it y x (zero, inside, same) = same
-is_it y x (suc k, inside, same) = absurd (omega (arith, inside))
 
 -- an arc that is in the longer list failed before the abort
 failed_first : (before : List Entry) (d : ℕ) (to : MigState) → Contains (Abort ∷ []) (Fail d to) ⊎ Contains before (Fail d to)
@@ -73,7 +70,7 @@ failed_before D before (entry ∷ more) d to legal has =
     failed_in D before more d to entry legal (failed_before D before more d to legal.2)
     (Contains-append_cases (entry ∷ []) (more ++ Abort ∷ before) (Fail d to) has)
 
-fail_back : (D : Desc) (before later : List Entry) (final : Machine) (d : ℕ) (to : MigState) → GoesOn D before later final
+pub fail_back : (D : Desc) (before later : List Entry) (final : Machine) (d : ℕ) (to : MigState) → GoesOn D before later final
     → Contains later (Fail d to) → Contains before (Fail d to)
 fail_back D before later final d to goes has =
     failed_before D before goes.more d to (subst (λ (l : List Entry). IsLegal D l) goes.journal goes.legal)
@@ -240,7 +237,7 @@ complete_on status attempt made later final ends keeps is =
 
 -- ---- parts and states
 
-joint_same : (D : Desc) (l : List Entry) → is_some (joint_in D l) ≡ is_joint l
+pub joint_same : (D : Desc) (l : List Entry) → is_some (joint_in D l) ≡ is_joint l
 joint_same D l = by_cases (is_joint l) refl
   where
     by_cases : (b : Bool) → is_joint l ≡ b → is_some (joint_in D l) ≡ is_joint l
@@ -254,7 +251,7 @@ parts_went_on Moved joint on = absurd cc
 parts_went_on (InDoubt doubt) joint on = absurd cc
 parts_went_on status joint on = refl
 
-parts_on : (status : Status) (made : Made) (later : List Entry) (final : Machine) → owner_at status ≡ WentOn → IsHalfway status made
+pub parts_on : (status : Status) (made : Made) (later : List Entry) (final : Machine) → owner_at status ≡ WentOn → IsHalfway status made
     → KeepsCopies made.desc (source_past made) later → HasParts status (gone_on made later final)
 parts_on status made later final on half keeps =
     let joint = ap is_some half.joint ∙ joint_same made.desc (source_past made) ∙ sym (ap is_joint (reverse-reverse later) ∙ keeps.joint) in
@@ -271,7 +268,17 @@ joint_state D before later valid legal keeps = by_cases (is_joint before) refl
     by_cases true is = rw is (joint_exists D valid later legal (keeps.joint ∙ is) ∙ ap Some keeps.machine)
     by_cases false is = rw is tt
 
-safe_on : (status : Status) (made : Made) (later : List Entry) (final : Machine) → IsValid made.desc → owner_at status ≡ WentOn
+-- a journal that stands has its state at the joint stop
+pub joint_stands : (made : Made) → IsValid made.desc → IsLegal made.desc (source_past made)
+    → IfSome (joint_in made.desc (source_past made)) (λ m. plain made.desc (delivers (before_joint made.source)) ≡ Some m)
+joint_stands made valid legal =
+    subst
+    (λ (l : List Entry). IfSome (joint_in made.desc (source_past made)) (λ m. plain made.desc (delivers (before_joint l)) ≡ Some m))
+    (reverse-reverse made.source)
+    (joint_state made.desc (source_past made) (source_past made) valid legal
+    (record { sent = refl; joint = refl; machine = refl; passes = refl; last = refl; ended = refl }))
+
+pub safe_on : (status : Status) (made : Made) (later : List Entry) (final : Machine) → IsValid made.desc → owner_at status ≡ WentOn
     → IsHalfway status made → GoesOn made.desc (source_past made) later final → IsSafeRun status (gone_on made later final)
 safe_on status made later final valid on half goes =
     record {

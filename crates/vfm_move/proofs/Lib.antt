@@ -1,5 +1,12 @@
 -- The lemmas of this crate.
 pub mod Cases
 pub mod GivenUp
+pub mod Brought
+pub mod HeardOnce
+pub mod Failing
 pub mod Unanswered
 pub mod Confirmed
+pub mod Answered
+pub mod Gone
+pub mod GoSaid
+pub mod Ended

@@ -5,4 +5,5 @@ pub mod Carried
 pub mod Causes
 pub mod Complete
 pub mod Move
+pub mod Answered
 pub mod Worked

@@ -2,6 +2,7 @@
 //! and worked cases of that.
 #![tactic(auto)]
 
+pub mod ends;
 pub mod laws;
 pub mod steps;
 pub mod worked;

@@ -1,17 +1,27 @@
 //! Steps of a move that fail: each is decided by its cause alone. Each law is a function without a body whose contract states it.
 
-ghost use Rattle.std.specs.Prelude.{◌≡◌, ℕ};
+ghost use Rattle.std.specs.Prelude.{◌≡◌, ℕ, Contains};
 ghost use Rattle.vfm_outside.specs.Counts.{Rose};
 ghost use Rattle.vfm_outside.specs.Links.{ToldEnds};
-ghost use Rattle.vfm_plain.specs.Report.{Made};
+ghost use Rattle.vfm_plain.specs.Report.{Made, source_past};
+ghost use Rattle.vfm_types.specs.declared.entry.Entry.TheVariants.{Fail};
+ghost use Rattle.vfm_types.specs.declared.state.MigState.{MigState};
+ghost use Rattle.vfm_types.specs.Valid.{IsValid};
 ghost use Rattle.vfm_types.specs.declared.fault.LinkPlace.TheVariants.{Control, Destination, Source};
-ghost use Rattle.vfm_status.specs.declared.status.Status.TheVariants.{Aborted, InDoubt, LinkFault, NoMemory};
+ghost use Rattle.vfm_status.specs.declared.status.Status.TheVariants.{Aborted, ArcFailed, InDoubt, LinkFault, NoMemory};
 ghost use Rattle.vfm_status.specs.declared.status.Doubt.TheVariants.{Read, Send};
 ghost use Rattle.vfm_move.specs.Contact.{Linked, WhereTold};
 ghost use Rattle.vfm_move.specs.Table.{FrontOfGo, WholeGo};
 ghost use Rattle.vfm_move.specs.Carried.{HasAnswered};
 ghost use Rattle.vfm_move.specs.Causes.{Attempt, FailedIn, FailedOut, IsAbortDue};
 ghost use Rattle.vfm_move.specs.Move.{IsConfirmed, IsDecided, IsHalfway, IsUnanswered, IsUnheard, IsUnhindered, NoArcFailed};
+
+/// An arc failed, and no pass has ended after which the source is to give up.
+pub fn arc_failed()
+    ensures { (attempt : Attempt) (made : Made) (ends : ToldEnds) (d : ℕ) (to : MigState) → IsValid made.desc
+        → IsUnanswered (ArcFailed d to) made ends → Contains (source_past made) (Fail d to)
+        → ((pass : ℕ) → IsAbortDue attempt pass made → ⊥) → IsDecided attempt (ArcFailed d to) made ends }
+{}
 
 /// A channel of the source failed, and no arc did: that is the status, even where a pass has ended after which the source is
 /// to give up.

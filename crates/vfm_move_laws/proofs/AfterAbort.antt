@@ -3,12 +3,12 @@ use Rattle.std.proofs.Common.{◌≡◌, ℕ, true, false, List, [], ◌∷◌, 
 use Rattle.std.proofs.lemmas.Bool.{true≢false}
 use Rattle.vfm_types.specs.declared.desc.Desc.{Desc}
 use Rattle.vfm_types.specs.declared.entry.Entry.{Entry}
-use Rattle.vfm_types.specs.declared.entry.Entry.TheVariants.{Fail, Report, Pass, Copy, Block, Dry, Joint, Abort}
+use Rattle.vfm_types.specs.declared.entry.Entry.TheVariants.{Fail, Pass, Copy, Block, Dry, Joint, Abort}
 use Rattle.vfm_types.specs.declared.state.MigState.{MigState}
 use Rattle.vfm_types.specs.Phases.{is_aborted}
 use Rattle.vfm_plain.specs.Legal.{IsLegal}
 use Rattle.vfm_laws.proofs.Conditions.{fail_met}
-use Rattle.vfm_copying.proofs.Conditions.{IsOn, pass_parts, report_parts, copy_parts, block_parts, dry_parts, joint_parts}
+use Rattle.vfm_copying.proofs.Conditions.{pass_parts, copy_parts, block_parts, dry_parts, joint_parts}
 use Rattle.vfm_packet.specs.Channel.{all_bytes}
 use Rattle.vfm_streams.specs.Sent.{Sent}
 use Rattle.vfm_streams.specs.Packets.{lane_packets, share}

@@ -1,2 +1,4 @@
 -- The lemmas of this crate.
 pub mod AfterAbort
+pub mod OutwardArcs
+pub mod FailedArcs

@@ -1,9 +1,7 @@
 -- What of the copies stands, whatever follows.
-use Rattle.std.specs.Prelude.{◌≡◌, ℕ, List, ◌∷◌}
+use Rattle.std.specs.Prelude.{◌≡◌, List}
 use Rattle.vfm_types.specs.declared.desc.Desc.{Desc}
 use Rattle.vfm_types.specs.declared.entry.Entry.{Entry}
-use Rattle.vfm_types.specs.declared.entry.Entry.TheVariants.{Fail}
-use Rattle.vfm_types.specs.declared.state.MigState.{MigState}
 use Rattle.vfm_types.specs.Blocks.{is_no_pass_open}
 use Rattle.vfm_types.specs.Deliveries.{joint_machine}
 use Rattle.vfm_types.specs.Phases.{is_joint, is_last_begun, pass_count}

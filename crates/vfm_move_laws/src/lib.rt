@@ -2,5 +2,7 @@
 #![tactic(auto)]
 
 mod abort;
+mod fails;
 
 pub use abort::{copies_stand_after_abort, no_arc_fails_after_abort};
+pub use fails::{arcs_fail_as_described, one_arc_fails};
