@@ -10,3 +10,7 @@ pub mod Answered
 pub mod Gone
 pub mod GoSaid
 pub mod Ended
+pub mod Undisturbed
+pub mod AnswerHeard
+pub mod NotRefused
+pub mod Carrying

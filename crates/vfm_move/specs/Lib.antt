@@ -6,4 +6,5 @@ pub mod Causes
 pub mod Complete
 pub mod Move
 pub mod Answered
+pub mod Undisturbed
 pub mod Worked

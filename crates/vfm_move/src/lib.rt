@@ -3,6 +3,7 @@
 #![tactic(auto)]
 
 pub mod ends;
+pub mod complete;
 pub mod laws;
 pub mod steps;
 pub mod worked;

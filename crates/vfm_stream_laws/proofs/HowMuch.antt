@@ -215,7 +215,7 @@ all_cost D m all valid sound =
     let long : length (with_all_closed D m all) ≤ suc (length all) + 15 * device_count D = rest.1 in
     (omega arith, omega arith)
 
-sent_cost : (D : Desc) → IsValid D → (past : List Entry) → IsLegal D past → (cost_of (sent D past) ≤ 52063985) × (length (sent D past) ≤ 83065)
+pub sent_cost : (D : Desc) → IsValid D → (past : List Entry) → IsLegal D past → (cost_of (sent D past) ≤ 52063985) × (length (sent D past) ≤ 83065)
 sent_cost D valid past legal =
     let copies : copy_count past ≤ 9216 = all_copies D valid past legal in
     let blocks : reads past ≤ 73728 = few_reads D valid past legal in

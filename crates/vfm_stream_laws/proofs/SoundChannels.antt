@@ -139,7 +139,7 @@ lane_carried D e k (x ∷ all) valid expects of low few =
     (carried_both e (lane_packets D k all) (packet_of D x) before (packet_carried D e x valid expects of.0 low.0 few.0)))
     (λ other h. subst (AllByRecursion (IsCarried e)) (sym (lane_other D k x all h)) before) refl
 
-end_sound : (D : Desc) (e : Expect) → IsValid D → Expects D e → IsSoundPacket e (end_of D.version D.session)
+pub end_sound : (D : Desc) (e : Expect) → IsValid D → Expects D e → IsSoundPacket e (end_of D.version D.session)
 end_sound D e valid expects =
     record {
       head = record {
