@@ -8,3 +8,4 @@ pub mod Telling
 pub mod Deciding
 pub mod Taking
 pub mod Going
+pub mod Sending

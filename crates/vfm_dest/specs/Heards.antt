@@ -31,6 +31,22 @@ told received ended failed_in link = record { received = received link; ended = 
 abbrev pub untold : Told
 untold = record { received = None; ended = true; failed_in = 0 }
 
+-- what links tell of what goes out, each by a word of theirs
+pub record OutWords (L : Type 0) : Type 0 where
+  pub sent : L → Option (List ℕ)
+  pub finished : L → Bool
+  pub failed_out : L → ℕ
+
+abbrev pub out_words : {L : Type 0} → (L → Option (List ℕ)) → (L → Bool) → (L → ℕ) → OutWords L
+out_words sent finished failed_out = record { sent = sent; finished = finished; failed_out = failed_out }
+
+-- There are as many links, and each tells of what goes out what it told before.
+pub record SendAsBefore {L : Type 0} (words : OutWords L) (before now : List L) : Type 0 where
+  pub count : length now ≡ length before
+  pub sent : map words.sent now ≡ map words.sent before
+  pub finished : map words.finished now ≡ map words.finished before
+  pub failed_out : map words.failed_out now ≡ map words.failed_out before
+
 -- each fan has so many streams
 abbrev pub HaveStreams : List Fan → ℕ → Type 0
 HaveStreams fans n = (k : ℕ) → k < length fans → length (slice_index_or (map fan_rings fans) k []) ≡ n

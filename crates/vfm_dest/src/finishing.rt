@@ -32,6 +32,7 @@ pub fn finish<L: Link>(staged: Staged, control: &mut L) -> Result<Core, GoFault>
     ensures takes_over { TakesOver (core_of staged).desc.session (digest_of staged) (record {
       before = L.received control.old;
       now = L.received control.new;
+      had_ended = L.ended control.old;
       ended = L.ended control.new;
     }) (without_value result) }
     ensures never_falls { L.failed_in control.old ≤ L.failed_in control.new }

@@ -3,7 +3,7 @@
 ghost use Rattle.std.specs.Prelude.{◌≡◌, ◌<◌, ◌≤◌, ℕ, [], length, map, vec_capacity};
 ghost use Rattle.vfm_mesh.specs.Rows.{stream_count, fan_rings, given};
 ghost use Rattle.vfm_mesh.specs.Meshes.{given_at};
-ghost use Rattle.vfm_dest.specs.Heards.{told, HaveStreams, channel_of, channels_of, AreRead, WasRead};
+ghost use Rattle.vfm_dest.specs.Heards.{told, out_words, HaveStreams, SendAsBefore, channel_of, channels_of, AreRead, WasRead};
 
 use std::alloc::Global;
 use vfm_mesh::Fan;
@@ -31,6 +31,9 @@ fn read_link<L: Link>(
     ensures read { WasRead expect (told L.received L.ended L.failed_in link)
         (channel_of (told L.received L.ended L.failed_in result.link) (given fan.new) result.end) }
     ensures rings { fan_rings fan.new ≡ fan_rings fan.old }
+    ensures sent { L.sent result.link ≡ L.sent link }
+    ensures finished { L.finished result.link ≡ L.finished link }
+    ensures failed_out { L.failed_out result.link ≡ L.failed_out link }
 {
     let mut reader = Reader::of(alloc, link, channel, expect);
     let end = reader.pump(fan);
@@ -56,6 +59,9 @@ fn read_one<L: Link>(
     ensures others { (k s : ℕ) → (k ≡ channel → ⊥) → given_at fans.new.items k s ≡ given_at fans.old.items k s }
     ensures rings { map fan_rings fans.new.items ≡ map fan_rings fans.old.items }
     ensures fans { length fans.new.items ≡ length fans.old.items }
+    ensures sent { L.sent result.link ≡ L.sent link }
+    ensures finished { L.finished result.link ≡ L.finished link }
+    ensures failed_out { L.failed_out result.link ≡ L.failed_out link }
 {
     read_link(alloc, expect, link, channel, &mut fans[channel as usize])
 }
@@ -88,6 +94,7 @@ pub fn read_all<L: Link>(
         (channels_of (map (told L.received L.ended L.failed_in) result.links.items) fans.new.items result.ends.items) }
     ensures rings { map fan_rings fans.new.items ≡ map fan_rings fans.old.items }
     ensures fans { length fans.new.items ≡ length fans.old.items }
+    ensures out { SendAsBefore (out_words L.sent L.finished L.failed_out) links.items result.links.items }
 {
     let mut channel = 0;
     for link in links {

@@ -3,7 +3,7 @@
 ghost use Rattle.std.specs.Prelude.{◌≡◌, ◌<◌, length, map};
 ghost use Rattle.vfm_types.specs.Valid.{IsValid};
 ghost use Rattle.vfm_streams.specs.Verdict.{Expects};
-ghost use Rattle.vfm_dest.specs.Heards.{told};
+ghost use Rattle.vfm_dest.specs.Heards.{told, out_words, SendAsBefore};
 ghost use Rattle.vfm_dest.specs.Staging.{IsReadyFor, IsStagedBy, Judges, NamesFailed, ReadsOut};
 
 use crate::ready::{Ready, make_ready};
@@ -49,6 +49,7 @@ pub fn stage<L: Link>(
       before = map (told L.received L.ended L.failed_in) links.items;
       now = map (told L.received L.ended L.failed_in) result.0.items;
     }) result.1 }
+    ensures out { SendAsBefore (out_words L.sent L.finished L.failed_out) links.items result.0.items }
 {
     stage_in(alloc, desc, links, SLOTS)
 }
@@ -58,7 +59,7 @@ pub fn stage<L: Link>(
 ///
 /// `Ok` and `Refusal` are the verdict on the bytes that came in this call; then every link has ended, or has given more
 /// than 67,108,864 bytes. `Link` names the first channel whose link failed; each below it was read out so. `NoMemory` may
-/// come in place of any answer.
+/// come in place of any answer. Nothing is sent.
 pub fn stage_in<L: Link>(
     alloc: Global,
     desc: &Desc,
@@ -81,6 +82,7 @@ pub fn stage_in<L: Link>(
       before = map (told L.received L.ended L.failed_in) links.items;
       now = map (told L.received L.ended L.failed_in) result.0.items;
     }) result.1 }
+    ensures out { SendAsBefore (out_words L.sent L.finished L.failed_out) links.items result.0.items }
 {
     match make_ready(alloc, desc, slots) {
         Ok(ready) => stage_ready(alloc, desc, links, ready),
@@ -103,6 +105,7 @@ fn stage_ready<L: Link>(
       before = map (told L.received L.ended L.failed_in) links.items;
       now = map (told L.received L.ended L.failed_in) result.0.items;
     }) result.1 }
+    ensures out { SendAsBefore (out_words L.sent L.finished L.failed_out) links.items result.0.items }
 {
     let Ready {
         mut fans,

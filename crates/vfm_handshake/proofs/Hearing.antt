@@ -1,5 +1,5 @@
 -- A step of the loop that hears a frame.
-use Rattle.std.proofs.Common.{◌≡◌, ◌∙◌, sym, ap, ℕ, ◌+◌, ◌-◌, ◌≤◌, Option, Some, List, ◌++◌, length, take, drop, arith}
+use Rattle.std.proofs.Common.{◌≡◌, ◌≢◌, ◌∙◌, ◌||◌, ◌&&◌, ◌==◌, Bool, true, false, nat_lt, refl, ne_eqb, sym, ap, ℕ, ◌+◌, ◌-◌, ◌≤◌, Option, Some, List, ◌++◌, length, take, drop, arith}
 use Rattle.std.proofs.lemmas.List.{length-append, length-take, length-drop, append_cancel_left, take-append-le}
 use Rattle.std.specs.Prelude.{unwrap_or, []}
 use borrow.Rule.Slice.PartMut.{put_mid}
@@ -48,3 +48,12 @@ heard_once r told first second e one other =
     append_cancel_left told first second (ap (λ (o : Option (List ℕ)). unwrap_or o [])
     (sym (one.came ∙ ap (λ (o : Option (List ℕ)). with_appended o first) e)
     ∙ (other.came ∙ ap (λ (o : Option (List ℕ)). with_appended o second) e)))
+
+-- bytes that came are no end
+pub still_open : (before : Bool) (n room : ℕ) → n ≢ 0 → (before || (n == 0 && nat_lt 0 room)) ≡ before
+still_open before n room some =
+    ap (λ (b : Bool). before || (b && nat_lt 0 room)) (ne_eqb n 0 some) ∙ none before
+  where
+    none : (b : Bool) → (b || false) ≡ b
+    none true = refl
+    none false = refl

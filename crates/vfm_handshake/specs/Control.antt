@@ -1,5 +1,6 @@
 -- What a call on a control link hears and says, and what it answers for that.
 use Rattle.std.specs.Prelude.{◌≡◌, ◌≢◌, ℕ, ◌<◌, ◌≤◌, ⊤, Bool, true, false, Option, Some, None, Result, Ok, Err, List, length}
+use Rattle.vfm_base.specs.Words.{IsBytes}
 use Rattle.vfm_control.specs.declared.frame.Frame.{Frame}
 use Rattle.vfm_control.specs.declared.frame.Frame.TheVariants.{Staged, Refused, Go}
 use Rattle.vfm_control.specs.declared.ends.Answer.{Answer}
@@ -11,17 +12,32 @@ use Rattle.vfm_handshake.specs.declared.fault.SettleFault.TheVariants as settlin
 use Rattle.vfm_handshake.specs.declared.fault.GoFault.{GoFault}
 use Rattle.vfm_handshake.specs.declared.fault.GoFault.TheVariants as going
 
--- what a link had received before a call and has after it, where it reports that, and whether its end has been received then
+-- what a link had received before a call and has after it, where it reports that, and whether its end had been received
+-- before and has been then
 pub record Receipt : Type 0 where
   pub before : Option (List ℕ)
   pub now : Option (List ℕ)
+  pub had_ended : Bool
   pub ended : Bool
 
--- the call received these bytes: at most a frame's, and fewer only where the link ended
+-- the call received these bytes: at most a frame's, and fewer only where the link ended; a whole frame's don't end it
 pub record Heard (r : Receipt) (bytes : List ℕ) : Type 0 where
+  pub fits : IsBytes bytes
   pub came : r.now ≡ with_appended r.before bytes
   pub most : length bytes ≤ 44
   pub cut : length bytes < 44 → r.ended ≡ true
+  pub whole : length bytes ≡ 44 → r.ended ≡ r.had_ended
+
+-- the call received these bytes, fewer than a frame's and no end, before the link failed
+pub record CutShort (r : Receipt) (bytes : List ℕ) : Type 0 where
+  pub came : r.now ≡ with_appended r.before bytes
+  pub few : length bytes < 44
+  pub ended : r.ended ≡ r.had_ended
+
+-- it did so of some bytes
+pub record IsCutShort (r : Receipt) : Type 0 where
+  pub bytes : List ℕ
+  pub cut : CutShort r bytes
 
 -- the bytes are no answer of the destination: no frame of the session, or a Go
 abbrev pub IsNoAnswer : Option Frame → Type 0
@@ -60,14 +76,14 @@ pub record AnswersTo (r : Receipt) (Answers : List ℕ → Type 0) : Type 0 wher
   pub heard : Heard r bytes
   pub answers : Answers bytes
 
--- a source settles as it does to what it heard, but where the link failed
+-- a source settles as it does to what it heard, or the link failed before a frame came
 abbrev pub Settles : ℕ → List ℕ → Receipt → Result ⊤ SettleFault → Type 0
-Settles session own r (Err settling.Link) = ⊤
+Settles session own r (Err settling.Link) = IsCutShort r
 Settles session own r result = AnswersTo r (λ bytes. SettledBy session own bytes result)
 
--- a destination takes over, or doesn't, as it does to what it heard, but where the link failed
+-- a destination takes over, or doesn't, as it does to what it heard, or the link failed before a frame came
 abbrev pub TakesOver : ℕ → List ℕ → Receipt → Result ⊤ GoFault → Type 0
-TakesOver session own r (Err going.Link) = ⊤
+TakesOver session own r (Err going.Link) = IsCutShort r
 TakesOver session own r result = AnswersTo r (λ bytes. TakenBy session own bytes result)
 
 -- whether an answer refuses

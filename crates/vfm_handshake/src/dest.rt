@@ -51,6 +51,7 @@ pub fn hear_go<L: Link>(control: &mut L, session: u64, ours: &[u8; 32]) -> Resul
     ensures takes_over { TakesOver session ours.now (record {
       before = L.received control.old;
       now = L.received control.new;
+      had_ended = L.ended control.old;
       ended = L.ended control.new;
     }) result }
     ensures never_falls { L.failed_in control.old ≤ L.failed_in control.new }

@@ -1,9 +1,10 @@
 //! Hearing a frame.
 
-ghost use Rattle.std.specs.Prelude.{◌≡◌, IfOk, IfSome};
+ghost use Rattle.std.specs.Prelude.{◌≡◌, ◌≤◌, IfOk, IfSome, OnErr, take};
+ghost use Rattle.vfm_base.specs.Words.{IsBytes};
 ghost use Rattle.vfm_outside.specs.Counts.{CountsFaults};
 ghost use Rattle.vfm_control.specs.Frame.{frame_at, session_of};
-ghost use Rattle.vfm_handshake.specs.Control.{Heard};
+ghost use Rattle.vfm_handshake.specs.Control.{Heard, IsCutShort};
 
 use std::marker::Model;
 use vfm_control::{FRAME_LEN, Frame, decode};
@@ -28,6 +29,19 @@ impl Model for HeardBytes {
 }
 
 impl HeardBytes {
+    // The first so many bytes of a buffer.
+    fn of(bytes: &[u8; FRAME_LEN], len: usize) -> HeardBytes
+        requires { len ≤ 44 }
+        ensures value { result ≡ take len bytes.now }
+        ensures fits { IsBytes result }
+    {
+        let all: &[u8] = bytes;
+        HeardBytes {
+            bytes: *bytes,
+            len: all.len().min(len),
+        }
+    }
+
     /// The frame of this session that these bytes are.
     #[tactic(auto, unfolding(vfm_control::specs::Frame::frame_at))]
     pub fn frame(&self, session: u64) -> Option<Frame>
@@ -56,8 +70,15 @@ pub fn hear<L: Link>(control: &mut L) -> Result<HeardBytes, Failed>
     ensures heard { IfOk result (λ heard. Heard (record {
       before = L.received control.old;
       now = L.received control.new;
+      had_ended = L.ended control.old;
       ended = L.ended control.new;
     }) heard) }
+    ensures cut_short { OnErr result (IsCutShort (record {
+      before = L.received control.old;
+      now = L.received control.new;
+      had_ended = L.ended control.old;
+      ended = L.ended control.new;
+    })) }
     ensures count { CountsFaults result (L.failed_in control.old) (L.failed_in control.new) }
     ensures sent { L.sent control.new ≡ L.sent control.old }
     ensures finished { L.finished control.new ≡ L.finished control.old }
@@ -72,5 +93,5 @@ pub fn hear<L: Link>(control: &mut L) -> Result<HeardBytes, Failed>
         }
         len += n;
     }
-    Ok(HeardBytes { bytes, len })
+    Ok(HeardBytes::of(&bytes, len))
 }

@@ -22,6 +22,7 @@ pub fn settle<L: Link>(control: &mut L, session: u64, ours: &[u8; 32]) -> Result
     ensures settles { Settles session ours.now (record {
       before = L.received control.old;
       now = L.received control.new;
+      had_ended = L.ended control.old;
       ended = L.ended control.new;
     }) result }
     ensures never_falls { L.failed_in control.old ≤ L.failed_in control.new }

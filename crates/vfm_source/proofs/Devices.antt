@@ -112,3 +112,36 @@ pub devices_move : {L : Type 0} (sent : L → Option (List ℕ)) (starts : List 
     → IsMoving sent starts joint (devices_stepped (device_count core.desc) core) outlets
 devices_move sent starts joint outlets core fit moving =
     (moved_by sent starts joint outlets (device_count core.desc) core fit (omega arith) moving).moving
+
+-- ---- what each entry of a request keeps of the run
+
+record Kept (P : List Entry → Type 0) (core : CoreState) : Type 0 where
+  fit : FitsDesc core.desc core.world
+  kept : P (past_in core)
+
+module _ (P : List Entry → Type 0) (step : (entry : Entry) (past : List Entry) → is_coordinators entry ≡ false → P past → P (entry ∷ past)) where
+  device_keeps : (core : CoreState) (d : ℕ) → FitsDesc core.desc core.world → d < device_count core.desc → P (past_in core)
+      → P (past_in (with_made (first_step d core) core))
+  device_keeps core d fit inside kept = by (first_step d core) refl
+    where
+      by : (o : Option Entry) → first_step d core ≡ o → P (past_in (with_made o core))
+      by None is = kept
+      by (Some entry) is =
+          let steps = enabled_steps core.desc d (dev_at core.world d) in
+          let own = (enabled_allowed core.desc d (dev_at core.world d) (0 % length steps) entry (fit.fits.dev d inside) is).own in
+          subst P (sym (past_more core entry (after_on core.desc core.world entry))) (step entry (past_in core) (request_of d entry own) kept)
+
+  kept_by : (n : ℕ) (core : CoreState) → FitsDesc core.desc core.world → n ≤ device_count core.desc → P (past_in core) → Kept P (devices_stepped n core)
+  kept_by zero core fit within kept = record { fit = fit; kept = kept }
+  kept_by (suc d) core fit within kept =
+      let before = kept_by d core fit (omega (arith, within)) kept in
+      let inside : d < device_count (devices_stepped d core).desc =
+      subst (λ (D : Desc). d < device_count D) (sym (stepped_desc d core)) (omega (arith, within)) in
+      record {
+        fit = stepped_fits (devices_stepped d core) d before.fit inside;
+        kept = device_keeps (devices_stepped d core) d before.fit inside before.kept;
+      }
+
+  -- is kept once each device has stepped
+  pub devices_keep : (core : CoreState) → FitsDesc core.desc core.world → P (past_in core) → P (past_in (devices_stepped (device_count core.desc) core))
+  devices_keep core fit kept = (kept_by (device_count core.desc) core fit (omega arith) kept).kept

@@ -5,6 +5,7 @@ pub mod Turns
 pub mod Leaving
 pub mod Fails
 pub mod Told
+pub mod Early
 pub mod Outcomes
 pub mod Channels
 pub mod Refused
@@ -12,3 +13,4 @@ pub mod Finishing
 pub mod Closed
 pub mod Sources
 pub mod RefusedOffers
+pub mod GivingUp

@@ -21,8 +21,9 @@ use Rattle.vfm_source.specs.declared.fault.OfferFault.{OfferFault}
 use Rattle.vfm_source.specs.declared.fault.OfferFault.TheVariants as faults
 use Rattle.vfm_source.specs.declared.rounds.Stop.{Stop}
 use Rattle.vfm_source.specs.declared.rounds.Stop.TheVariants as stops
-use Rattle.vfm_source.specs.Offers.{AllFine, AllFinished, AllSent, HasCause, IsComplete, IsFine, IsFront, Offer, Offers, SentFront, SentWhole, StopsAtPass, TellsFail, Told, end_bytes, has_passed, now_at, outcome_of, was_at}
-use Rattle.vfm_source.specs.Rounds.{Stops}
+use Rattle.vfm_source.specs.Offers.{AllFine, AllFinished, AllSent, FailsBeforePass, HasCause, IsComplete, IsFine, IsFront, Offer, Offers, SentFront, SentWhole, StopsAtPass, TellsFail, Told, end_bytes, has_passed, now_at, outcome_of, was_at}
+use Rattle.vfm_source.specs.Rounds.{FailsEarly, Stops}
+use Rattle.vfm_source.proofs.Early.{not_passed}
 use Rattle.vfm_source.proofs.Fails.{never_fails, one_fail, still_failed}
 
 -- ---- one channel
@@ -60,6 +61,7 @@ pub record Facts (offer : Offer) (arc : Option FailedArc) (channel : Option ℕ)
   pub arc_some : IfSome arc (λ a. Contains offer.past (Fail a.d a.to))
   pub arc_none : IfNone arc (is_failed offer.past ≡ false)
   pub stopped : Stops stop offer.desc offer.abort_after offer.past
+  pub early : FailsEarly offer.abort_after offer.past
   pub done : closed ≡ true → stop ≡ stops.Done
   pub failed : ℕ → Bool
   pub channels : (k : ℕ) → k < offer.desc.channels
@@ -169,6 +171,18 @@ module _ (offer : Offer) where
       by_bool (facts.failed k) (λ b. IsFine (was_at offer k) (now_at offer k) ⊎ Rose (was_at offer k).failed_out (now_at offer k).failed_out)
       (λ bad. inr (is.rose bad)) (λ ok. inl (is.fine ok))
 
+  early_of : (arc : Option FailedArc) (channel : Option ℕ) (stop : Stop) (closed : Bool) → Facts offer arc channel stop closed
+      → FailsBeforePass offer (outcome_of arc channel stop closed offer.abort_after)
+  early_of (Some arc) channel stop closed facts = λ some.
+      not_passed offer.desc offer.abort_after offer.past
+      (facts.early some (still_failed offer.past facts.going arc.d arc.to facts.arc_some))
+  early_of None (Some least) stop closed facts = tt
+  early_of None None stops.Done true facts = tt
+  early_of None None stops.Done false facts = tt
+  early_of None None stops.AbortDue closed facts = tt
+  early_of None None stops.LinkFault closed facts = tt
+  early_of None None stops.NoMemory closed facts = tt
+
   pub offers_of : (arc : Option FailedArc) (channel : Option ℕ) (stop : Stop) (closed : Bool) → Facts offer arc channel stop closed
       → Offers offer (outcome_of arc channel stop closed offer.abort_after)
   offers_of arc channel stop closed facts =
@@ -177,6 +191,7 @@ module _ (offer : Offer) where
         cause = cause_of arc channel stop closed facts;
         finished = finished_of arc channel stop closed facts;
         pass = pass_of arc channel stop closed facts;
+        early = early_of arc channel stop closed facts;
       }
 
 -- ---- what follows of the cause

@@ -4,7 +4,7 @@ use Rattle.vfm_types.specs.Phases.{is_failed}
 use Rattle.vfm_outside.specs.Counts.{Rose}
 use Rattle.vfm_streams.specs.Packets.{share}
 use Rattle.vfm_source.specs.declared.fault.OfferFault.{OfferFault}
-use Rattle.vfm_source.specs.Offers.{AllFinished, AllSent, HasCause, IsFine, Offer, Offers, StopsAtPass, Told, abort_bytes, now_at, was_at}
+use Rattle.vfm_source.specs.Offers.{AllFinished, AllSent, FailsBeforePass, HasCause, IsFine, Offer, Offers, StopsAtPass, Told, abort_bytes, now_at, was_at}
 use Rattle.vfm_source.specs.Refusals.{AllRefused, FailedOrFine, IsFirstRefusal, fault_of_refusal}
 
 fine_or_failed : (failed : Bool) (was now : Told) → FailedOrFine failed was now → IsFine was now ⊎ Rose was.failed_out now.failed_out
@@ -34,6 +34,10 @@ module _ (offer : Offer) (none : offer.past ≡ []) (all : AllRefused (abort_byt
   pass : (fault : OfferFault) → StopsAtPass {T = Unit {0}} offer (Err fault)
   pass fault = λ positive passed. tt
 
+  early : (least : Option ℕ) → FailsBeforePass {T = Unit {0}} offer (Err (fault_of_refusal least))
+  early (Some k) = tt
+  early None = tt
+
   pub refused_offers : (least : Option ℕ) → IsFirstRefusal offer.desc.channels offer.before offer.now least
       → Offers {T = Unit {0}} offer (Err (fault_of_refusal least))
   refused_offers least is =
@@ -42,4 +46,5 @@ module _ (offer : Offer) (none : offer.past ≡ []) (all : AllRefused (abort_byt
         cause = cause least is;
         finished = finished;
         pass = pass (fault_of_refusal least);
+        early = early least;
       }

@@ -17,7 +17,7 @@ use Rattle.vfm_drive.specs.Runs.{HasRun}
 use Rattle.vfm_source.specs.declared.fault.OfferFault.{OfferFault}
 use Rattle.vfm_source.specs.declared.fault.OfferFault.TheVariants as faults
 use Rattle.vfm_source.specs.Moving.{IsUnderWay, past_in}
-use Rattle.vfm_source.specs.Offers.{HasCause, IsComplete, Offer, TellsFail, Told, offer_of, with_digest}
+use Rattle.vfm_source.specs.Offers.{FailsBeforePass, HasCause, IsComplete, Offer, TellsFail, Told, offer_of, with_digest}
 use Rattle.vfm_source.specs.Source.{IsFresh}
 use Rattle.vfm_source.proofs.Moves.{machine_now}
 use Rattle.vfm_source.proofs.Outcomes.{complete, tells_fail}
@@ -58,6 +58,14 @@ fails_with offer digest r legal going cause = tells_fail offer (with_digest dige
 pub complete_with : (offer : Offer) (digest : List ℕ) (r : Result (Unit {0}) OfferFault) → IsLegal offer.desc offer.past → HasCause offer r
     → IsComplete offer (with_digest digest r)
 complete_with offer digest r legal cause = complete offer (with_digest digest r) legal (cause_with offer digest r cause)
+
+pub early_with : (offer : Offer) (digest : List ℕ) (r : Result (Unit {0}) OfferFault) → FailsBeforePass offer r
+    → FailsBeforePass offer (with_digest digest r)
+early_with offer digest (Ok value) early = tt
+early_with offer digest (Err (faults.Link k)) early = tt
+early_with offer digest (Err (faults.Aborted pass)) early = tt
+early_with offer digest (Err (faults.ArcFailed d to)) early = early
+early_with offer digest (Err faults.NoMemory) early = tt
 
 -- the digest of the machine as it stands is that of the machine at the joint stop
 pub digest_with : (core : CoreState) (joint : Machine) (n : ℕ) (before now : List Told) (digest : List ℕ) (r : Result (Unit {0}) OfferFault) → FitsDesc core.desc core.world

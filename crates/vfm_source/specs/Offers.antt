@@ -153,12 +153,18 @@ IsFault (Err fault) = Unit {0}
 abbrev pub StopsAtPass : {T : Type 0} → Offer → Result T OfferFault → Type 0
 StopsAtPass offer result = 0 < offer.abort_after → IsTrue (has_passed offer.desc offer.abort_after offer.past) → IsFault result
 
+-- where an arc failed, the pass hasn't ended after which the source is to give up
+abbrev pub FailsBeforePass : {T : Type 0} → Offer → Result T OfferFault → Type 0
+FailsBeforePass offer (Err (faults.ArcFailed d to)) = 0 < offer.abort_after → IsFalse (has_passed offer.desc offer.abort_after offer.past)
+FailsBeforePass offer result = Unit {0}
+
 -- What holds of an offer at its end.
 pub record Offers {T : Type 0} (offer : Offer) (result : Result T OfferFault) : Type 0 where
   pub sent : AllSent offer result
   pub cause : HasCause offer result
   pub finished : AllFinished offer
   pub pass : StopsAtPass offer result
+  pub early : FailsBeforePass offer result
 
 -- the answer tells an arc that failed
 abbrev pub TellsFail : {T : Type 0} → Offer → Result T OfferFault → Type 0

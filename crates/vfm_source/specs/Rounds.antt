@@ -2,7 +2,7 @@
 use Rattle.std.specs.Prelude.{◌≡◌, ℕ, ◌<◌, Bool, Option, List, length, map, IsTrue, IsFalse}
 use Rattle.vfm_types.specs.declared.desc.Desc.{Desc}
 use Rattle.vfm_types.specs.declared.entry.Entry.{Entry}
-use Rattle.vfm_types.specs.Phases.{is_failed}
+use Rattle.vfm_types.specs.Phases.{is_failed, pass_count}
 use Rattle.vfm_plain.specs.Ended.{is_last_ended}
 use Rattle.vfm_order.specs.Coordinator.{is_abort_due}
 use Rattle.vfm_core.specs.CoreState.{CoreState}
@@ -46,6 +46,10 @@ Stops stops.Done D abort_after past =
     IsTrue (is_last_ended D past) × IsFalse (is_failed past) × IsFalse (is_abort_due D past abort_after)
 Stops stops.AbortDue D abort_after past = IsTrue (is_abort_due D past abort_after)
 Stops stop D abort_after past = Unit {0}
+
+-- an arc failed, if one did, before the pass began after which the source is to give up; 0 is for no pass
+abbrev pub FailsEarly : ℕ → List Entry → Type 0
+FailsEarly abort_after past = 0 < abort_after → IsTrue (is_failed past) → pass_count past < abort_after
 
 -- What a turn of the coordinator tells behind the steps of the devices: that one of them made an entry, so that fewer are left;
 -- or why there is nothing to be made.

@@ -1,7 +1,8 @@
 //! The source of a move: its machine, and how far the move has come.
 
-ghost use Rattle.std.specs.Prelude.{◌≡◌, ◌≢◌, ◌≤◌, ◌||◌, List, [], None, Err, is_ok, length, map, if◌then◌else◌, IfOk, IfSome, IfNone, OnOk, OnErr, IsFalse, IsTrue};
+ghost use Rattle.std.specs.Prelude.{◌≡◌, ◌≢◌, ◌≤◌, ◌||◌, ◌++◌, ◌∷◌, List, [], None, Err, is_ok, length, map, if◌then◌else◌, IfOk, IfSome, IfNone, OnOk, OnErr, IsFalse, IsTrue};
 ghost use Rattle.vfm_types.specs.declared.entry.Entry.{Entry as Item};
+ghost use Rattle.vfm_types.specs.declared.entry.Entry.TheVariants.{Abort};
 ghost use Rattle.vfm_types.specs.Deliveries.{joint_machine};
 ghost use Rattle.vfm_types.specs.Phases.{is_joint};
 ghost use Rattle.vfm_types.specs.Valid.{IsValid};
@@ -20,7 +21,7 @@ ghost use Rattle.vfm_plain.specs.Shape.{HasShape};
 ghost use Rattle.vfm_plain.specs.StateText.{state_digest};
 ghost use Rattle.vfm_core.specs.Machines.{machine_in};
 ghost use Rattle.vfm_source.specs.Moving.{past_in};
-ghost use Rattle.vfm_source.specs.Offers.{AllFinished, AllSent, HasCause, IsComplete, StopsAtPass, TellsFail, offer_of, told, with_digest};
+ghost use Rattle.vfm_source.specs.Offers.{AllFinished, AllSent, FailsBeforePass, HasCause, IsComplete, StopsAtPass, TellsFail, offer_of, told, with_digest};
 ghost use Rattle.vfm_source.specs.Rounds.{HearAsBefore, words};
 ghost use Rattle.vfm_source.specs.Source.{IsSource, Moves};
 
@@ -123,6 +124,8 @@ impl Mover {
             (map (told L.sent L.finished L.failed_out) result.0.items)) result.1 }
         ensures pass { StopsAtPass (offer_of self.new.core abort_after (map (told L.sent L.finished L.failed_out) links.items)
             (map (told L.sent L.finished L.failed_out) result.0.items)) result.1 }
+        ensures early { FailsBeforePass (offer_of self.new.core abort_after (map (told L.sent L.finished L.failed_out) links.items)
+            (map (told L.sent L.finished L.failed_out) result.0.items)) result.1 }
         ensures finished { AllFinished (offer_of self.new.core abort_after (map (told L.sent L.finished L.failed_out) links.items)
             (map (told L.sent L.finished L.failed_out) result.0.items)) }
         ensures complete { IsComplete (offer_of self.new.core abort_after (map (told L.sent L.finished L.failed_out) links.items)
@@ -184,6 +187,7 @@ impl Mover {
         ensures settles { Settles self.old.core.desc.session self.old.digest (record {
           before = L.received control.old;
           now = L.received control.new;
+          had_ended = L.ended control.old;
           ended = L.ended control.new;
         }) result }
         ensures never_falls { L.failed_in control.old ≤ L.failed_in control.new }
@@ -223,12 +227,15 @@ impl Mover {
         vfm_handshake::say_go(control, session, &self.digest)
     }
 
-    /// Gives up: makes Abort, then rounds until every device is `RUNNING` and idle. Allowed once, before Go. Takes no memory.
+    /// Gives up: makes Abort, then rounds until every device is `RUNNING` and idle. The machine at the joint stop stays as it
+    /// was. Allowed once, before Go. Takes no memory.
     pub fn give_up(&mut self)
         requires before_go { self.old.phase ≢ phases.Gone }
         requires once { self.old.phase ≢ phases.GivenUp }
         ensures gives_up { (past : List Item) → IsAfter self.old.core.desc past self.old.core.world
             → IsFalse (is_over past) → HasGivenUp self.old.core self.new.core None past }
+        ensures moves { (past : List Item) → Moves past self.old → IsFalse (is_over past)
+            → (given : HasGivenUp self.old.core self.new.core None past) → Moves (given.on.more ++ Abort ∷ past) self.new }
         ensures joint { self.new.joint ≡ self.old.joint }
         ensures digest { self.new.digest ≡ self.old.digest }
         ensures phase { self.new.phase ≡ phases.GivenUp }

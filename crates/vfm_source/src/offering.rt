@@ -4,7 +4,7 @@ ghost use Rattle.std.specs.Prelude.{◌≡◌, [], false, length, map, replicate
 ghost use Rattle.vfm_outlets.specs.Carrying.{all_failed, links_of};
 ghost use Rattle.vfm_source.specs.Moving.{IsMoving, IsUnderWay, past_in};
 ghost use Rattle.vfm_source.specs.Offers.{Offers, offer_of, told};
-ghost use Rattle.vfm_source.specs.Rounds.{HearAsBefore, words};
+ghost use Rattle.vfm_source.specs.Rounds.{FailsEarly, HearAsBefore, words};
 
 use crate::ending::{close, failed_arc, outcome};
 use crate::fault::OfferFault;
@@ -25,6 +25,7 @@ fn send_over<L: Link>(
 ) -> (Vec<L>, Result<(), OfferFault>)
     requires moving { IsMoving L.sent (map L.sent (links_of outlets)) joint.old core.old outlets }
     requires unfailed { all_failed outlets ≡ replicate (length (links_of outlets)) false }
+    requires early { FailsEarly abort_after (past_in core.old) }
     ensures way { IsUnderWay joint.new core.new }
     ensures desc { core.new.desc ≡ core.old.desc }
     ensures offers { Offers (offer_of core.new abort_after (map (told L.sent L.finished L.failed_out) (links_of outlets))

@@ -6,7 +6,7 @@ ghost use Rattle.vfm_drive.specs.Runs.{left_in};
 ghost use Rattle.vfm_streams.specs.Sent.{Sent};
 ghost use Rattle.vfm_outlets.specs.Carrying.{Carries, all_failed, links_of};
 ghost use Rattle.vfm_source.specs.Moving.{IsMoving, IsOnMove, past_in};
-ghost use Rattle.vfm_source.specs.Rounds.{Leaves, Stops, TurnTells, words};
+ghost use Rattle.vfm_source.specs.Rounds.{FailsEarly, Leaves, Stops, TurnTells, words};
 ghost use Rattle.vfm_source.specs.declared.rounds.Stop.TheVariants as stops;
 
 use crate::order::{Turn, take_turn};
@@ -55,6 +55,7 @@ fn step_all<L: Link>(
         → IsMoving L.sent starts joint.new core.new outlets.new }
     ensures desc { core.new.desc ≡ core.old.desc }
     ensures tells { IfOk result (λ turn. TurnTells turn core.old core.new abort_after) }
+    ensures early { FailsEarly abort_after (past_in core.old) → FailsEarly abort_after (past_in core.new) }
     ensures links { links_of outlets.new ≡ links_of outlets.old }
     ensures failed { all_failed outlets.new ≡ all_failed outlets.old }
 {
@@ -80,6 +81,7 @@ pub fn round<L: Link>(
     ensures leaves { Leaves (words L.failed_out L.failed_in L.received L.ended) outlets.old outlets.new }
     ensures desc { core.new.desc ≡ core.old.desc }
     ensures goes_on { result ≡ None → left_in core.new < left_in core.old }
+    ensures early { FailsEarly abort_after (past_in core.old) → FailsEarly abort_after (past_in core.new) }
     ensures stops { IfSome result (λ stop. Stops stop core.new.desc abort_after (past_in core.new)) }
 {
     match step_all(core, joint, outlets, abort_after) {
@@ -105,6 +107,7 @@ pub fn make_rounds<L: Link>(
     ensures leaves { Leaves (words L.failed_out L.failed_in L.received L.ended) outlets.old outlets.new }
     ensures desc { core.new.desc ≡ core.old.desc }
     ensures stops { Stops result core.new.desc abort_after (past_in core.new) }
+    ensures early { FailsEarly abort_after (past_in core.old) → FailsEarly abort_after (past_in core.new) }
 {
     'rounds: loop {
         if let Some(stop) = round(core, joint, outlets, abort_after) {

@@ -17,6 +17,7 @@ returns-in-Ok-clause-pair g c p told bytes at before now go =
     let r : Receipt = record {
       before = g.L.Link.received c.args.control.now;
       now = g.L.Link.received c.hear_go.new.control;
+      had_ended = g.L.Link.ended c.args.control.now;
       ended = g.L.Link.ended c.hear_go.new.control;
     } in
     let to : TakesOver core.desc.session own r (Ok tt) =
@@ -33,6 +34,7 @@ returns-in-Err-clause-own_go g c told before now sound =
     let r : Receipt = record {
       before = g.L.Link.received c.args.control.now;
       now = g.L.Link.received c.hear_go.new.control;
+      had_ended = g.L.Link.ended c.args.control.now;
       ended = g.L.Link.ended c.hear_go.new.control;
     } in
     let to : TakesOver core.desc.session own r (Err c.in-Err.fault) =
@@ -53,6 +55,7 @@ returns-in-Err-clause-pair g c p told bytes at before now go =
     let r : Receipt = record {
       before = g.L.Link.received c.args.control.now;
       now = g.L.Link.received c.hear_go.new.control;
+      had_ended = g.L.Link.ended c.args.control.now;
       ended = g.L.Link.ended c.hear_go.new.control;
     } in
     let to : TakesOver core.desc.session own r (Err c.in-Err.fault) =

@@ -2,8 +2,9 @@ use Rattle.std.proofs.Common.{rules, ◌≡◌, ◌∙◌, refl, sym, ap, subst,
 use Rattle.std.proofs.lemmas.List.{length-append, length-map}
 use Rattle.vfm_mesh.specs.Meshes.{given_at}
 use Rattle.vfm_recv.specs.declared.channel_end.ChannelEnd.{ChannelEnd}
-use Rattle.vfm_dest.specs.Heards.{Told, told, channel_of, channels_of, AreRead, WasRead}
+use Rattle.vfm_dest.specs.Heards.{Told, told, out_words, SendAsBefore, channel_of, channels_of, AreRead, WasRead}
 use Rattle.vfm_dest.proofs.Hearing.{map-more, more-read}
+use Rattle.vfm_dest.proofs.Sending.{more-sent, none-sent}
 use Rattle.vfm_dest.proofs.reading.read_all.Goals as goal
 
 pub loop-link-init : goal.loop-link-init
@@ -26,6 +27,7 @@ loop-link-init g c =
         answers = ap (λ (xs : List ChannelEnd). length xs) c.requires.no_ends;
         each = λ k low. absurd (omega (arith, low));
       };
+      out = none-sent (out_words g.L.Link.sent g.L.Link.finished g.L.Link.failed_out) c.args.all.links.items c.requires.no_links;
     }
 
 pub loop-link-preserved : goal.loop-link-preserved
@@ -65,4 +67,8 @@ loop-link-preserved g c =
           (more-read e (map T yielded) (T link) (map T back) (T heard.link) c.loop-link.fans.items now c.loop-link.all.ends.items heard.end inv.read
           (subst (λ (n : ℕ). WasRead e (T link) (channel_of (T heard.link) (given_at now n) heard.end)) place c.read_one-heard.ensures.read)
           (λ k s away. c.read_one-heard.ensures.others k s (λ same. away (same ∙ place))))));
+      out =
+          subst (SendAsBefore (out_words g.L.Link.sent g.L.Link.finished g.L.Link.failed_out) (yielded ++ link ∷ [])) (sym pushed)
+          (more-sent (out_words g.L.Link.sent g.L.Link.finished g.L.Link.failed_out) yielded back link heard.link inv.out c.read_one-heard.ensures.sent
+          c.read_one-heard.ensures.finished c.read_one-heard.ensures.failed_out);
     }

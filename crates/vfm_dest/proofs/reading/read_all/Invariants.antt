@@ -2,7 +2,7 @@
 use Rattle.std.proofs.Common.{◌≡◌, ◌≤◌, ◌++◌, ℕ, [], length, map, vec_capacity}
 use Rattle.vfm_mesh.specs.Rows.{fan_rings}
 use Rattle.vfm_mesh.specs.Meshes.{given_at}
-use Rattle.vfm_dest.specs.Heards.{told, channels_of, AreRead}
+use Rattle.vfm_dest.specs.Heards.{told, out_words, SendAsBefore, channels_of, AreRead}
 use Rattle.vfm_dest.proofs.reading.read_all.Given as goal
 
 abbrev pub invariant-loop-link : goal.invariant-loop-link
@@ -18,4 +18,5 @@ invariant-loop-link g l = record {
   nothing : (k s : ℕ) → l.channel ≤ k → given_at l.fans.items k s ≡ [];
   read : AreRead l.expect (map (told g.L.Link.received g.L.Link.ended g.L.Link.failed_in) l.yielded)
       (channels_of (map (told g.L.Link.received g.L.Link.ended g.L.Link.failed_in) l.all.links.items) l.fans.items l.all.ends.items);
+  out : SendAsBefore (out_words g.L.Link.sent g.L.Link.finished g.L.Link.failed_out) l.yielded l.all.links.items;
 }

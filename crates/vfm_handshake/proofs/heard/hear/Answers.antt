@@ -1,5 +1,5 @@
 use Rattle.std.proofs.Common.{◌∙◌, rules, arith}
-use Rattle.vfm_handshake.proofs.Hearing.{heard_more, length_with_piece}
+use Rattle.vfm_handshake.proofs.Hearing.{heard_more, length_with_piece, still_open}
 use Rattle.vfm_handshake.proofs.heard.hear.Goals as goal
 
 pub loop-len-preserved : goal.loop-len-preserved
@@ -12,5 +12,8 @@ loop-len-preserved g c = record {
   counted = c.in_ok-n.ensures.count.ok ∙ c.loop-len.invariant.counted;
   sent = c.recv.ensures.sent ∙ c.loop-len.invariant.sent;
   finished = c.recv.ensures.finished ∙ c.loop-len.invariant.finished;
+  ended =
+      c.in_ok-n.ensures.ended
+      ∙ still_open (g.L.Link.ended c.loop-len.control) c.in_ok-n.n _ (search (rules, arith)) ∙ c.loop-len.invariant.ended;
   failed_out = c.recv.ensures.other_count ∙ c.loop-len.invariant.failed_out;
 }

@@ -10,6 +10,7 @@ invariant-loop-len g l = record {
   counted : g.L.Link.failed_in l.control ≡ g.L.Link.failed_in l.initial.control;
   sent : g.L.Link.sent l.control ≡ g.L.Link.sent l.initial.control;
   finished : g.L.Link.finished l.control ≡ g.L.Link.finished l.initial.control;
+  ended : g.L.Link.ended l.control ≡ g.L.Link.ended l.initial.control;
   failed_out : g.L.Link.failed_out l.control ≡ g.L.Link.failed_out l.initial.control;
 }
 

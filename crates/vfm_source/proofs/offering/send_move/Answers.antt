@@ -1,11 +1,17 @@
 -- Without memory for the channels every link is told that the source gives up.
-use Rattle.std.proofs.Common.{List, Result, map, sym, subst}
+use Rattle.std.proofs.Common.{List, Result, ap, map, sym, subst, ◌∙◌}
+use Rattle.std.proofs.lemmas.Bool.{false≢true}
 use Rattle.vfm_types.specs.declared.desc.Desc.{Desc}
+use Rattle.vfm_types.specs.Phases.{is_failed}
 use Rattle.vfm_source.specs.declared.fault.OfferFault.{OfferFault}
 use Rattle.vfm_source.specs.Offers.{Offer, Offers, abort_bytes, offer_of, told}
 use Rattle.vfm_source.specs.Refusals.{AllRefused, IsFirstRefusal}
 use Rattle.vfm_source.proofs.RefusedOffers.{refused_offers}
 use Rattle.vfm_source.proofs.offering.send_move.Goals as goal
+
+pub send_over-requires-clause-early : goal.send_over-requires-clause-early
+send_over-requires-clause-early g c κs within some failed =
+    absurd (false≢true (sym (ap is_failed c.requires.fresh) ∙ failed))
 
 pub returns-in-Err-clause-offers : goal.returns-in-Err-clause-offers
 returns-in-Err-clause-offers g c =

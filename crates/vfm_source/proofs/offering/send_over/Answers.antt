@@ -55,6 +55,7 @@ returns-clause-offers g c =
       arc_some = c.failed_arc.ensures.some;
       arc_none = c.failed_arc.ensures.none;
       stopped = c.make_rounds-stop.ensures.stops;
+      early = c.make_rounds-stop.ensures.early c.requires.early;
       done = c.close-closed.ensures.done;
       failed = flag_of stages;
       channels = λ k inside. facts_at own D past c.close-closed.result stages are k inside;

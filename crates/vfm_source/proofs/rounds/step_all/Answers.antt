@@ -5,7 +5,9 @@ use Rattle.vfm_core.specs.CoreState.{CoreState, FitsDesc}
 use Rattle.vfm_drive.proofs.Steps.{all_fit, stepped_desc}
 use Rattle.vfm_drive.specs.Runs.{want_on}
 use Rattle.vfm_source.specs.Moving.{IsMoving, entry_made, past_in}
-use Rattle.vfm_source.proofs.Devices.{devices_move}
+use Rattle.vfm_source.specs.Rounds.{FailsEarly}
+use Rattle.vfm_source.proofs.Devices.{devices_keep, devices_move}
+use Rattle.vfm_source.proofs.Early.{request_early, turn_early_by}
 use Rattle.vfm_source.proofs.Turns.{IsTurn, same_desc_by, tells_by}
 use Rattle.vfm_source.proofs.rounds.step_all.Goals as goal
 
@@ -47,3 +49,15 @@ returns-clause-tells g c =
       on = c.step_devices.ensures.goes_on None (past_in c.args.core.now) on.moving.way.run;
     } in
     tells_by c.args.joint.now c.args.core.now mid c.args.abort_after turn c.take_turn.result c.take_turn.new.core c.take_turn.ensures.order c.take_turn.ensures.made
+
+pub returns-clause-early : goal.returns-clause-early
+returns-clause-early g c early =
+    let on = c.requires.moving in
+    let mid = c.step_devices.new.core in
+    let n = c.args.abort_after in
+    let way =
+    (subst (λ (s : CoreState). IsMoving g.L.Link.sent on.starts c.args.joint.now s c.args.outlets.now) (sym c.step_devices.ensures.made)
+    (devices_move g.L.Link.sent on.starts c.args.joint.now c.args.outlets.now c.args.core.now c.desc.ensures.fits on.moving)).way in
+    turn_early_by c.take_turn.result mid c.take_turn.new.core n c.take_turn.ensures.made c.take_turn.ensures.unmade way.going
+    (subst (λ (s : CoreState). FailsEarly n (past_in s)) (sym c.step_devices.ensures.made)
+    (devices_keep (FailsEarly n) (request_early n) c.args.core.now c.desc.ensures.fits early))
