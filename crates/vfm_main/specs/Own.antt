@@ -11,9 +11,16 @@ is_own [] = false
 is_own (word ∷ []) = same_text word (codes "--help") || same_text word (codes "--version")
 is_own (first ∷ second ∷ words) = false
 
--- A call of `run` with these words over files and standard output, which show no bytes. So many reads of the description,
--- so many of the report, and so many writes failed.
-abbrev pub call_over_files : List (List ℕ) → WiresTell → ℕ → ℕ → ℕ → Status → Call
-call_over_files words wires reads report_reads writes answer =
-    call_of words (outside (source_tells None 0) (source_tells None 0) wires (sink_tells None 0))
-    (outside (source_tells None reads) (source_tells None report_reads) wires (sink_tells None writes)) answer
+-- how many reads of the description, how many of the report, and how many writes failed
+pub record Failures : Type 0 where
+  pub reads : ℕ
+  pub report_reads : ℕ
+  pub writes : ℕ
+
+-- A call of `run` with these words over files and standard output, which show no bytes, and over wires that show this before
+-- it and after it.
+abbrev pub call_over_files : List (List ℕ) → WiresTell → WiresTell → Failures → Status → Call
+call_over_files words before now failures answer =
+    call_of words (outside (source_tells None 0) (source_tells None 0) before (sink_tells None 0))
+    (outside (source_tells None failures.reads) (source_tells None failures.report_reads) now (sink_tells None failures.writes))
+    answer

@@ -5,7 +5,7 @@ ghost use Rattle.std.specs.Prelude.{◌≡◌, ◌⊎◌, ℕ, [], None, map, is
 ghost use Rattle.vfm_status.specs.declared.status.Status.TheVariants.{Printed, WriteFault};
 ghost use Rattle.vfm_outside.specs.Tells.{sink_tells, WiresTell};
 ghost use Rattle.vfm_top.specs.Answers.{Ends, Promises};
-ghost use Rattle.vfm_main.specs.Own.{is_own, call_over_files};
+ghost use Rattle.vfm_main.specs.Own.{Failures, is_own, call_over_files};
 
 mod files;
 mod output;
@@ -18,13 +18,14 @@ use std::rt::{Env, Files};
 use std::sync::Wait;
 use std::thread::Threads;
 use std::{env, io};
-use vfm_outside::{NoBeat, ScriptWires, Sink, write_all};
+use vfm_outside::{NoBeat, RingWires, Sink, write_all};
 use vfm_top::{Status, number, run};
 
 const HELP: &str = "\
 vfmig: migrates a described machine with its devices, and prints what happened
 
 vfmig run FILE             runs the machine that FILE describes, moves it and prints the report
+vfmig run FILE abort N     the same, but the source gives up once pass N, 1 to 9, has ended
 vfmig audit FILE REPORT    audits REPORT as the report of a run of the machine that FILE describes
 vfmig paths FROM TO FLAGS  prints the path between two device states, such as RUNNING and STOP_COPY,
                            for a device with FLAGS 1, 3, 5 or 7
@@ -33,6 +34,9 @@ vfmig --version            prints the version
 ";
 
 const VERSION: &str = "vfmig 0.1.0\n";
+
+/// How many pieces each link holds. Both ends run one after the other, so a channel with more of them fails at its source.
+const SLOTS: usize = 4_096;
 
 /// The words of the command line, without the program's name. Where one of them isn't UTF-8 they have no form, and no
 /// words are given.
@@ -92,14 +96,14 @@ fn print_text<S: Sink>(text: &str, out: &mut S) -> Status
 
 /// Does what the words ask for, with files and standard output. All but the program's own words go to the top call.
 /// Its files and its output show no bytes, and how many reads and writes failed is seen by nobody but the call. The first
-/// file is the description's, the second the report's.
+/// file is the description's, the second the report's. The two ends of a move meet over rings in memory.
 fn answer<H: Threads + Wait + Sync + Files + Print + Alloc<A = Global>>(
     rt: &H,
     words: &[String],
 ) -> Status
     ensures own { IsTrue (is_own (map string_bytes words.now)) → (result ≡ Printed) ⊎ (result ≡ WriteFault) }
-    ensures handed { IsFalse (is_own (map string_bytes words.now)) → (wires : WiresTell) × (reads report_reads writes : ℕ)
-        × Promises (call_over_files (map string_bytes words.now) wires reads report_reads writes result) }
+    ensures handed { IsFalse (is_own (map string_bytes words.now)) → (before now : WiresTell) × (failures : Failures)
+        × Promises (call_over_files (map string_bytes words.now) before now failures result) }
 {
     let mut out = OutSink::of(rt);
     if let Some(text) = own_text(words) {
@@ -107,7 +111,7 @@ fn answer<H: Threads + Wait + Sync + Files + Print + Alloc<A = Global>>(
     }
     let mut desc = FileSource::of(rt, word_at(words, 1));
     let mut report = FileSource::of(rt, word_at(words, 2));
-    let mut wires = ScriptWires::of(rt.alloc(), None);
+    let mut wires = RingWires::of(rt.alloc(), SLOTS, 0, Vec::new(rt.alloc()));
     run(
         rt,
         rt.alloc(),

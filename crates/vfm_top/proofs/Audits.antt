@@ -13,10 +13,11 @@ use Rattle.vfm_top.specs.declared.words.Form.TheVariants.{Audit}
 use Rattle.vfm_status.specs.declared.status.Status.{Status}
 use Rattle.vfm_status.specs.declared.status.Status.TheVariants.{Printed, BadDescription, ReadFault, NoMemory, Broken, BadReport, StateDiffers}
 use Rattle.vfm_top.specs.Call.{Call, first_bytes, read_limit, report_limit, IsReadTo}
-use Rattle.vfm_top.specs.Causes.{CauseOf, OfDescription, OfReport}
+use Rattle.vfm_top.specs.Causes.{AuditCause, OfDescription, OfReport}
 use Rattle.vfm_top.specs.Answers.{IsCounted, IsOutcome}
-use Rattle.vfm_top.specs.Table.{NoSource, Reached, reach_at}
-use Rattle.vfm_top.specs.Outcome.{IsAuditOver, SourcesTell}
+use Rattle.vfm_move.specs.Contact.{Untouched}
+use Rattle.vfm_top.specs.Table.{Reached}
+use Rattle.vfm_top.specs.Outcome.{IsAuditOver, SourcesTell, nothing_made}
 use Rattle.vfm_top.specs.Sources.{IsDescribed, IsUndescribed, IsShortReport, IsBadReport, IsReported, IsUnreported, IsAudited, status_of_audit, entries_of_audit}
 use Rattle.vfm_top.proofs.Causes.{explained}
 use Rattle.vfm_top.proofs.Outcomes.{cause_of, read_over}
@@ -48,20 +49,17 @@ reported_in old new call D P Q over is more report =
     }
 
 -- an outcome with its cause, where no read failed
-quiet : (old new : SourcesTell) (call : Call) (status : Status) → IsAuditOver old new call → CauseOf (Some Audit) status call
-    → reach_at status ≡ NoSource ⊎ (status ≡ NoMemory) → new.desc.faults ≡ old.desc.faults → new.report.faults ≡ old.report.faults
-    → IsOutcome call status None
+quiet : (old new : SourcesTell) (call : Call) (status : Status) → IsAuditOver old new call → AuditCause status call
+    → Reached status None Untouched → new.desc.faults ≡ old.desc.faults → new.report.faults ≡ old.report.faults
+    → IsOutcome call (nothing_made status)
 quiet old new call status over cause reach desc report =
     record {
-      reached = reached_none status reach;
-      explained = explained call status (cause_of call (Some Audit) status over.asked cause);
+      reached = reach;
+      explained = explained call status (cause_of call (Some Audit) (nothing_made status) over.asked cause);
       move_of = tt;
+      untouched = λ none. over.wires;
       no_read_failed = λ other. (rw (over.desc_before, over.desc_now) desc, rw (over.report_before, over.report_now) report);
     }
-  where
-    reached_none : (status : Status) → reach_at status ≡ NoSource ⊎ (status ≡ NoMemory) → Reached (reach_at status) None
-    reached_none status (inl is) = rw is tt
-    reached_none status (inr is) = rw is tt
 
 -- a legal report has as many entries as were counted
 counted_so : (made : Made) (entries : ℕ) → IsAuditOf made (Ok entries) → IsAuditOf made (Ok (length (journal made)))
@@ -69,21 +67,21 @@ counted_so made entries passed = (passed.0, passed.1, passed.2, refl)
 
 -- an audit that went as far as its report
 pub audited : (old new : SourcesTell) (call : Call) (D : Desc) (status : Status) (entries : ℕ) → IsAuditOver old new call
-    → IsDescribed old.desc new.desc D → IsAudited D old.report new.report status entries → IsOutcome call status None
+    → IsDescribed old.desc new.desc D → IsAudited D old.report new.report status entries → IsOutcome call (nothing_made status)
 audited old new call D Printed entries over is found =
     quiet old new call Printed over
     (reported_in old new call D (λ made. IsAuditOf made (Ok entries)) (λ made. IsAuditOf made (Ok (length (journal made)))) over is
     (λ made passed. counted_so made entries passed) found)
-    (inl refl) is.read.no_fault found.read.no_fault
+    tt is.read.no_fault found.read.no_fault
 audited old new call D (Broken place rule) entries over is found =
     quiet old new call (Broken place rule) over (reported_in old new call D (λ made. IsAuditOf made (Err (RuleBroken place rule))) (λ made. IsAuditOf made (Err (RuleBroken place rule)))
     over is (λ made same. same) found)
-    (inl refl) is.read.no_fault found.read.no_fault
+    tt is.read.no_fault found.read.no_fault
 audited old new call D (StateDiffers section) entries over is found =
     quiet old new call (StateDiffers section) over
     (reported_in old new call D (λ made. IsAuditOf made (Err (OtherState section))) (λ made. IsAuditOf made (Err (OtherState section)))
     over is (λ made same. same) found)
-    (inl refl) is.read.no_fault found.read.no_fault
+    tt is.read.no_fault found.read.no_fault
 audited old new call D (BadReport line) entries over is found =
     quiet old new call (BadReport line) over
     (record {
@@ -93,19 +91,20 @@ audited old new call D (BadReport line) entries over is found =
       bad = read_over report_limit (IsBadReport D line) old.report new.report call.before.report call.now.report
           over.report_before over.report_now found;
     })
-    (inl refl) is.read.no_fault found.no_fault
-audited old new call D NoMemory entries over is found = quiet old new call NoMemory over tt (inr refl) is.read.no_fault found
+    tt is.read.no_fault found.no_fault
+audited old new call D NoMemory entries over is found = quiet old new call NoMemory over tt tt is.read.no_fault found
 audited old new call D ReadFault entries over is found =
     let read = described_in old new call D D over is refl in
     record {
       reached = tt;
       explained = explained call ReadFault
-          (cause_of call (Some Audit) ReadFault over.asked
+          (cause_of call (Some Audit) (nothing_made ReadFault) over.asked
           (inr (record {
             described = record { bytes = well D (first_bytes read_limit call.before.desc) read.bytes; rest = read.rest; no_fault = read.no_fault };
             counted = rw (over.report_before, over.report_now) found;
           })));
       move_of = tt;
+      untouched = λ none. over.wires;
       no_read_failed = λ other. absurd (other refl);
     }
 audited old new call D status entries over is found = absurd found
@@ -119,19 +118,20 @@ counted old new call D status entries over is found = tt
 
 -- an audit whose description is none
 pub undescribed : (old new : SourcesTell) (call : Call) (status : Status) → IsAuditOver old new call → IsUndescribed old.desc new.desc status
-    → new.report ≡ old.report → IsOutcome call status None
+    → new.report ≡ old.report → IsOutcome call (nothing_made status)
 undescribed old new call (BadDescription fault) over is same =
     quiet old new call (BadDescription fault) over
     (read_over read_limit (λ bytes. description_of bytes ≡ Err fault) old.desc new.desc call.before.desc call.now.desc
     over.desc_before over.desc_now is)
-    (inl refl) is.no_fault (ap (λ source. source.faults) same)
-undescribed old new call NoMemory over is same = quiet old new call NoMemory over tt (inr refl) is (ap (λ source. source.faults) same)
+    tt is.no_fault (ap (λ source. source.faults) same)
+undescribed old new call NoMemory over is same = quiet old new call NoMemory over tt tt is (ap (λ source. source.faults) same)
 undescribed old new call ReadFault over is same =
     record {
       reached = tt;
       explained = explained call ReadFault
-          (cause_of call (Some Audit) ReadFault over.asked (inl (rw (over.desc_before, over.desc_now) is)));
+          (cause_of call (Some Audit) (nothing_made ReadFault) over.asked (inl (rw (over.desc_before, over.desc_now) is)));
       move_of = tt;
+      untouched = λ none. over.wires;
       no_read_failed = λ other. absurd (other refl);
     }
 undescribed old new call status over is same = absurd is
@@ -166,5 +166,5 @@ audited_so D old new made answer status entries is count desc printed read found
     (subst (λ (n : ℕ). IsAudited D old new (status_of_audit answer) n) (sym count) (audited_as D old new made answer desc printed read found))
 
 -- an outcome and a count by other names
-pub outcome_so : (call : Call) (one other : Status) → one ≡ other → IsOutcome call other None → IsOutcome call one None
-outcome_so call one other is outcome = subst (λ (s : Status). IsOutcome call s None) (sym is) outcome
+pub outcome_so : (call : Call) (one other : Status) → one ≡ other → IsOutcome call (nothing_made other) → IsOutcome call (nothing_made one)
+outcome_so call one other is outcome = subst (λ (s : Status). IsOutcome call (nothing_made s)) (sym is) outcome

@@ -19,11 +19,16 @@ use Rattle.vfm_audit.specs.declared.fault.ReportFault.TheVariants.{Broken as Rul
 use Rattle.vfm_top.specs.declared.words.Form.{Form}
 use Rattle.vfm_top.specs.declared.words.Form.TheVariants.{Run, Audit, Paths}
 use Rattle.vfm_status.specs.declared.status.Status.{Status}
-use Rattle.vfm_status.specs.declared.status.Status.TheVariants.{Moved, Printed, BadWords, BadDescription, ReadFault, NoMemory, PathRefused, Broken, BadReport, StateDiffers}
+use Rattle.vfm_status.specs.declared.status.Doubt.TheVariants.{NoGo, Other}
+use Rattle.vfm_status.specs.declared.status.Status.TheVariants.{Printed, BadDescription, ReadFault, NoMemory, PathRefused, Broken, BadReport, StateDiffers, Unconfirmed, InDoubt, Differs, Aborted, ArcFailed, NoControl}
 use Rattle.vfm_top.specs.Form.{form_of}
-use Rattle.vfm_top.specs.Call.{Call, bytes_read, report_read}
+use Rattle.vfm_move.specs.Contact.{AreTold, Untouched}
+use Rattle.vfm_move.specs.Causes as migrating
+use Rattle.vfm_move.specs.Causes.{Attempt, Story}
+use Rattle.vfm_top.specs.Call.{Call, attempt_in, bytes_read, report_read}
 use Rattle.vfm_top.specs.Sources.{IsShortReport, IsBadReport, most_of_report, status_of_audit}
-use Rattle.vfm_top.specs.Causes.{OfDescription, OfReport, OfBadReport, OfShownBytes, OfShownReport, OfShownBadReport, CauseOf, BringsOf, HasCause, IsUnforeseen, IsExplained}
+use Rattle.vfm_top.specs.Causes.{OfDescription, OfReport, OfBadReport, OfShownBytes, OfShownReport, OfShownBadReport, MoveCause, AuditCause, PathCause, CauseOf, AuditBrings, BringsOf, MoveBrings, HasCause, IsUnforeseen, IsExplained}
+use Rattle.vfm_top.specs.Outcome.{nothing_made}
 
 -- of shown bytes one thing holds
 of_shown : (P Q : Result Desc DescFault → Type 0) {X : Type 0} (bytes : Option (List ℕ))
@@ -127,17 +132,18 @@ both_faults : (call : Call) (x y : DescFault) → OfDescription call (λ answer.
     → BadDescription x ≡ BadDescription y
 both_faults call x y c b = of_shown _ _ (bytes_read call) (λ answer p q. same_fault x y answer p q) c.bytes b
 
-exact_run : (call : Call) (status brought : Status) → CauseOf (Some Run) status call → BringsOf (Some Run) brought call
-    → (status ≡ brought) ⊎ IsUnforeseen status
-exact_run call ReadFault brought c b = inr tt
-exact_run call NoMemory brought c b = inr tt
-exact_run call Moved Moved c b = inl refl
-exact_run call Moved (BadDescription y) c b = absurd (of_shown _ _ (bytes_read call) (λ answer p q. ok_no_fault y answer p q) c.bytes b)
-exact_run call (BadDescription x) Moved c b = absurd (of_shown _ _ (bytes_read call) (λ answer p q. ok_no_fault x answer q p) c.bytes b)
-exact_run call (BadDescription x) (BadDescription y) c b = inl (both_faults call x y c b)
-exact_run call status Moved c b = absurd c
-exact_run call status (BadDescription y) c b = absurd c
-exact_run call status brought c b = absurd b
+pub machine_or_refusal : (call : Call) (fault : DescFault) → OfDescription call (λ answer. answer ≡ Err fault)
+    → OfShownBytes call (λ answer. IsOk answer) → ⊥
+machine_or_refusal call fault c b = of_shown _ _ (bytes_read call) (λ answer p q. ok_no_fault fault answer q p) c.bytes b
+
+exact_run : (pass : ℕ) (call : Call) (story : Story) (status brought : Status) → MoveCause pass status call story
+    → BringsOf (Some (Run pass)) brought call → (status ≡ brought) ⊎ IsUnforeseen status
+exact_run pass call story ReadFault brought c b = inr tt
+exact_run pass call story NoMemory brought c b = inr tt
+exact_run pass call story (BadDescription x) (BadDescription y) c b = inl (both_faults call x y c b)
+exact_run pass call story status (BadDescription y) c b =
+    absurd (of_shown _ _ (bytes_read call) (λ answer p q. ok_no_fault y answer p q) c.0.bytes b)
+exact_run pass call story status brought c b = absurd b
 
 -- the answers of an audit, of the report that was audited
 abbrev legal : Made → Result ℕ ReportFault
@@ -149,7 +155,7 @@ broken_at place rule made = Err (RuleBroken place rule)
 abbrev differs_at : Section → Made → Result ℕ ReportFault
 differs_at section made = Err (OtherState section)
 
-exact_audit : (call : Call) (status brought : Status) → CauseOf (Some Audit) status call → BringsOf (Some Audit) brought call
+exact_audit : (call : Call) (status brought : Status) → AuditCause status call → AuditBrings brought call
     → (status ≡ brought) ⊎ IsUnforeseen status
 exact_audit call ReadFault brought c b = inr tt
 exact_audit call NoMemory brought c b = inr tt
@@ -185,28 +191,65 @@ exact_audit call status (BadReport k) c b = absurd c
 exact_audit call status (BadDescription y) c b = absurd c
 exact_audit call status brought c b = absurd b
 
-exact_path : (call : Call) (from to : MigState) (flags : ℕ) (status brought : Status) → CauseOf (Some (Paths from to flags)) status call
-    → BringsOf (Some (Paths from to flags)) brought call → (status ≡ brought) ⊎ IsUnforeseen status
-exact_path call from to flags Printed Printed c b = inl refl
-exact_path call from to flags Printed (PathRefused y) c b = absurd (ok_no_fault y (path_of from to flags) c b)
-exact_path call from to flags (PathRefused x) Printed c b = absurd (ok_no_fault x (path_of from to flags) b c)
-exact_path call from to flags (PathRefused x) (PathRefused y) c b = inl (same_refusal x y (path_of from to flags) c b)
-exact_path call from to flags status Printed c b = absurd c
-exact_path call from to flags status (PathRefused y) c b = absurd c
-exact_path call from to flags status brought c b = absurd b
+-- what a migration of a described machine comes to has its cause
+move_cause : (pass : ℕ) (status : Status) (call : Call) (story : Story) → OfDescription call (λ answer. IsOk answer)
+    → migrating.HasCause status (attempt_in call pass) story → MoveCause pass status call story
+move_cause pass (BadDescription fault) call story described cause = absurd cause
+move_cause pass ReadFault call story described cause = absurd cause
+move_cause pass NoMemory call story described cause = tt
+move_cause pass status call story described cause = (described, cause)
 
-exact_none : (call : Call) (status brought : Status) → CauseOf None status call → BringsOf None brought call
+told_nothing : AreTold Untouched → ⊥
+told_nothing told = cc
+
+exact_path : (answer : Result (List MigState) PathFault) (status brought : Status) → PathCause answer status → PathCause answer brought
     → (status ≡ brought) ⊎ IsUnforeseen status
-exact_none call BadWords BadWords c b = inl refl
-exact_none call status BadWords c b = absurd c
-exact_none call status brought c b = absurd b
+exact_path answer Printed Printed c b = inl refl
+exact_path answer Printed (PathRefused y) c b = absurd (ok_no_fault y answer c b)
+exact_path answer (PathRefused x) Printed c b = absurd (ok_no_fault x answer b c)
+exact_path answer (PathRefused x) (PathRefused y) c b = inl (same_refusal x y answer c b)
+exact_path answer status Printed c b = absurd c
+exact_path answer status (PathRefused y) c b = absurd c
+exact_path answer status brought c b = absurd b
 
-exact : (form : Option Form) (call : Call) (status brought : Status) → CauseOf form status call → BringsOf form brought call
-    → (status ≡ brought) ⊎ IsUnforeseen status
-exact None call = exact_none call
-exact (Some Run) call = exact_run call
-exact (Some Audit) call = exact_audit call
-exact (Some (Paths from to flags)) call = exact_path call from to flags
+exact : (form : Option Form) (call : Call) (story : Story) (status brought : Status) → CauseOf form status call story
+    → BringsOf form brought call → (status ≡ brought) ⊎ IsUnforeseen status
+exact None call story status brought c b = inl (c ∙ sym b)
+exact (Some (Run pass)) call story status brought c b = exact_run pass call story status brought c b
+exact (Some Audit) call story status brought c b = exact_audit call status brought c b
+exact (Some (Paths from to flags)) call story status brought c b = exact_path (path_of from to flags) status brought c b
 
-pub explained : (call : Call) (status : Status) → HasCause status call → IsExplained call status
-explained call status cause = record { cause = cause; exact = λ brought. exact (form_of call.words) call status brought cause }
+-- where nothing was made, a migration brings nothing
+nothing_brought : (attempt : Attempt) (status brought : Status) → migrating.Brings brought attempt (nothing_made status) → ⊥
+nothing_brought attempt status (Unconfirmed ours theirs) b = told_nothing b.0
+nothing_brought attempt status (InDoubt (NoGo heard)) b = told_nothing b.0
+nothing_brought attempt status (InDoubt (Other ours theirs)) b = told_nothing b.0
+nothing_brought attempt status (NoControl heard) b = told_nothing b.0
+nothing_brought attempt status Differs b = told_nothing b.0
+nothing_brought attempt status (Aborted pass) b = absurd b
+nothing_brought attempt status (ArcFailed d to) b = absurd b
+nothing_brought attempt status brought b = absurd b
+
+nothing_moved : (form : Option Form) (call : Call) (status brought : Status) → MoveBrings form brought call (nothing_made status) → ⊥
+nothing_moved (Some (Run pass)) call status brought b = nothing_brought (attempt_in call pass) status brought b
+nothing_moved form call status brought b = absurd b
+
+-- a call at whose end nothing was made
+pub explained : (call : Call) (status : Status) → HasCause call (nothing_made status) → IsExplained call (nothing_made status)
+explained call status cause =
+    record {
+      cause = cause;
+      exact = λ brought. exact (form_of call.words) call (nothing_made status) status brought cause;
+      exact_move = λ brought b. absurd (nothing_moved (form_of call.words) call status brought b);
+    }
+
+-- a call that came to what a migration did
+pub explained_move : (call : Call) (pass : ℕ) (story : Story) → form_of call.words ≡ Some (Run pass)
+    → OfDescription call (λ answer. IsOk answer) → migrating.IsExplained (attempt_in call pass) story → IsExplained call story
+explained_move call pass story form described move =
+    let cause : CauseOf (form_of call.words) story.status call story = rw form (move_cause pass story.status call story described move.cause) in
+    record {
+      cause = cause;
+      exact = λ brought. exact (form_of call.words) call story story.status brought cause;
+      exact_move = λ brought b. move.exact brought (rw form at b);
+    }

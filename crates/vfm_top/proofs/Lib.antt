@@ -3,4 +3,5 @@ pub mod Forms
 pub mod Outcomes
 pub mod Audits
 pub mod Paths
+pub mod Parts
 pub mod Promises

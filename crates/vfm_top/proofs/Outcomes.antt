@@ -1,32 +1,38 @@
 -- What a call that asks for a move or an audit comes to, each way that it can end.
-use Rattle.std.proofs.Common.{◌≡◌, ℕ, List, [], take, drop, Option, Some, None, IfSome, Result, Ok, Err, IsOk, IsTrue, refl, sym, ◌∙◌, ap, ◌++◌, true, ◌&&◌, subst}
+use Rattle.std.proofs.Common.{◌≡◌, ℕ, List, [], take, drop, Option, Some, None, IfSome, Result, Ok, Err, IsOk, refl, sym, ◌∙◌, ap, ◌++◌, subst, ◌<◌, ◌≤◌, arith}
 use Rattle.std.specs.Prelude.{IfErr, IfOk, option_map, unwrap_or}
-use Rattle.std.proofs.lemmas.Bool.{and_parts}
 use Rattle.std.proofs.lemmas.List.{take-append-drop, append_cancel_left}
-use Rattle.vfm_types.specs.declared.entry.Entry.{Entry}
 use Rattle.vfm_types.specs.declared.desc.Desc.{Desc}
 use Rattle.vfm_types.specs.declared.fault.DescFault.{DescFault}
 use Rattle.vfm_types.specs.declared.fault.DescFault.TheVariants.{NoMemory as Memory}
-use Rattle.vfm_types.specs.Phases.{is_joint, is_last_begun}
-use Rattle.vfm_plain.specs.Ended.{is_last_ended}
+use Rattle.vfm_types.specs.Desc.{device_count}
+use Rattle.vfm_types.specs.Valid.{IsValid}
 use Rattle.vfm_outside.specs.Told.{with_prepended}
 use Rattle.vfm_outside.specs.Tells.{SourceTells}
-use Rattle.vfm_plain.specs.Report.{source_past}
+use Rattle.vfm_plain.specs.Report.{Made}
 use Rattle.vfm_desc.specs.Reading.{Gives}
 use Rattle.vfm_desc.specs.Described.{description_of}
 use Rattle.vfm_top.specs.declared.words.Form.{Form}
 use Rattle.vfm_top.specs.declared.words.Form.TheVariants.{Run}
 use Rattle.vfm_status.specs.declared.status.Status.{Status}
-use Rattle.vfm_status.specs.declared.status.Status.TheVariants.{Moved, BadDescription, ReadFault, NoMemory, BadReport}
-use Rattle.vfm_top.specs.declared.outcome.Move.{Move}
-use Rattle.vfm_top.specs.Call.{Call, first_bytes, read_limit, report_limit, IsReadTo}
-use Rattle.vfm_top.specs.Causes.{CauseOf, HasCause, OfDescription}
+use Rattle.vfm_status.specs.declared.status.Status.TheVariants.{Printed, BadWords, BadDescription, ReadFault, WriteFault, PathRefused, Broken, BadReport, StateDiffers, NoMemory}
+use Rattle.vfm_move.specs.Contact.{Contact, Untouched}
+use Rattle.vfm_move.specs.Causes as migrating
+use Rattle.vfm_move.specs.Causes.{Attempt, Story}
+use Rattle.vfm_move.specs.Move as migrating_move
+use Rattle.vfm_core.specs.CoreState.{CoreState}
+use Rattle.vfm_source.specs.Source.{MoverState}
+use Rattle.vfm_dest.specs.StagedCores.{StagedState}
+use Rattle.vfm_migrate.specs.declared.migration.Migration.{Migration}
+use Rattle.vfm_migrate.specs.Migrations.{CameTo, IsMigrated, IsSourceOf, attempt_of, made_by, made_in, story_of}
+use Rattle.vfm_top.specs.Call.{Call, attempt_in, first_bytes, read_limit, report_limit, IsReadTo}
+use Rattle.vfm_top.specs.Causes.{CauseOf, HasCause, IsAsked, MoveCause, OfDescription}
 use Rattle.vfm_top.specs.Form.{form_of}
-use Rattle.vfm_move.specs.Headline.{IsOneRun, HasItsStates, WasTakenOver}
-use Rattle.vfm_top.specs.Answers.{IsOutcome}
-use Rattle.vfm_top.specs.Outcome.{made_by, IsCallOver}
+use Rattle.vfm_top.specs.Table.{Reached}
+use Rattle.vfm_top.specs.Answers.{IsMoveOf}
+use Rattle.vfm_top.specs.Outcome.{HasOutcome, IsCallOver, IsOfOneMachine, IsPrintableMigration, MoveTells, nothing_made}
 use Rattle.vfm_top.specs.Sources.{status_of, IsRefusal, IsDescribed, IsUndescribed, IsBadReport, IsNoReport, IsUnreported}
-use Rattle.vfm_top.proofs.Causes.{explained}
+use Rattle.vfm_top.proofs.Causes.{explained, explained_move}
 
 -- ---- reading
 
@@ -94,67 +100,113 @@ err_so P Q (Err e) more holds = more e holds
 
 -- ---- a move
 
-pub cause_of : (call : Call) (form : Option Form) (status : Status) → form_of call.words ≡ form → CauseOf form status call → HasCause status call
-cause_of call form status is cause = subst (λ (f : Option Form). CauseOf f status call) (sym is) cause
+pub cause_of : (call : Call) (form : Option Form) (story : Story) → form_of call.words ≡ form → CauseOf form story.status call story
+    → HasCause call story
+cause_of call form story is cause = subst (λ (f : Option Form). CauseOf f story.status call story) (sym is) cause
 
-pub out_of_memory : (old new : SourceTells) (call : Call) → IsCallOver old new call → new.faults ≡ old.faults → IsOutcome call NoMemory None
-out_of_memory old new call over same =
+-- an outcome at which nothing was made
+unmade : (pass : ℕ) (old new : MoveTells) (call : Call) (status : Status) → IsCallOver pass old new call → new.wires ≡ old.wires
+    → Reached status None Untouched → MoveCause pass status call (nothing_made status)
+    → ((status ≡ ReadFault → ⊥) → new.desc.faults ≡ old.desc.faults) → HasOutcome call status None
+unmade pass old new call status over same reached cause quiet =
     record {
-      reached = tt;
-      explained = explained call NoMemory (cause_of call (Some Run) NoMemory over.asked tt);
-      move_of = tt;
-      no_read_failed = λ other. (rw (over.before, over.now) same, rw over.unaudited refl);
+      contact = Untouched;
+      outcome = record {
+        reached = reached;
+        explained = explained call status (cause_of call (Some (Run pass)) (nothing_made status) over.asked cause);
+        move_of = tt;
+        untouched = λ none. rw (over.wires_before, over.wires_now) same;
+        no_read_failed = λ other. (rw (over.before, over.now) (quiet other), rw over.unaudited refl);
+      };
     }
 
 -- a description that is none
-pub refused : (old new : SourceTells) (call : Call) (status : Status) → IsCallOver old new call → IsUndescribed old new status
-    → IsOutcome call status None
-refused old new call (BadDescription fault) over is =
-    record {
-      reached = tt;
-      explained = explained call (BadDescription fault)
-          (cause_of call (Some Run) (BadDescription fault) over.asked (read_over _ _ old new call.before.desc call.now.desc over.before over.now is));
-      move_of = tt;
-      no_read_failed = λ other. (rw (over.before, over.now) is.no_fault, rw over.unaudited refl);
-    }
-refused old new call ReadFault over is =
-    record {
-      reached = tt;
-      explained = explained call ReadFault (cause_of call (Some Run) ReadFault over.asked (rw (over.before, over.now) is));
-      move_of = tt;
-      no_read_failed = λ other. absurd (other refl);
-    }
-refused old new call NoMemory over is = out_of_memory old new call over is
-refused old new call status over is = absurd is
+pub refused : (pass : ℕ) (old new : MoveTells) (call : Call) (status : Status) → IsCallOver pass old new call → new.wires ≡ old.wires
+    → IsUndescribed old.desc new.desc status → HasOutcome call status None
+refused pass old new call (BadDescription fault) over same is =
+    unmade pass old new call (BadDescription fault) over same tt
+    (read_over _ _ old.desc new.desc call.before.desc call.now.desc over.before over.now is) (λ other. is.no_fault)
+refused pass old new call ReadFault over same is =
+    unmade pass old new call ReadFault over same tt (rw (over.before, over.now) is) (λ other. absurd (other refl))
+refused pass old new call NoMemory over same is = unmade pass old new call NoMemory over same tt tt (λ other. is)
+refused pass old new call status over same is = absurd is
 
--- a machine that is moved
-pub moved : (old new : SourceTells) (call : Call) (move : Move) → IsCallOver old new call → IsDescribed old new move.desc
-    → IsOneRun (made_by move) → HasItsStates (made_by move) → WasTakenOver (made_by move) → is_joint (source_past (made_by move)) ≡ true
-    → IsOutcome call Moved (Some (made_by move))
-moved old new call move over is run states taken joint =
-    let read = read_over read_limit (λ bytes. description_of bytes ≡ Ok move.desc) old new call.before.desc call.now.desc over.before over.now is.read in
+-- a migration comes to no other status
+reached_move : (status : Status) (made : Option Made) (contact : Contact) (attempt : Attempt) (story : Story)
+    → migrating.HasCause status attempt story → CameTo status made contact → Reached status made contact
+reached_move Printed made contact attempt story cause came = absurd cause
+reached_move BadWords made contact attempt story cause came = absurd cause
+reached_move (BadDescription fault) made contact attempt story cause came = absurd cause
+reached_move ReadFault made contact attempt story cause came = absurd cause
+reached_move WriteFault made contact attempt story cause came = absurd cause
+reached_move (PathRefused fault) made contact attempt story cause came = absurd cause
+reached_move (Broken place rule) made contact attempt story cause came = absurd cause
+reached_move (BadReport line) made contact attempt story cause came = absurd cause
+reached_move (StateDiffers section) made contact attempt story cause came = absurd cause
+reached_move status made contact attempt story cause came = came
+
+well : (D : Desc) (bytes : Option (List ℕ)) → IfSome bytes (λ read. description_of read ≡ Ok D) → IfSome bytes (λ read. IsOk (description_of read))
+well D None is = tt
+well D (Some bytes) is = rw is refl
+
+described_well : (call : Call) (D : Desc) → OfDescription call (λ answer. answer ≡ Ok D) → OfDescription call (λ answer. IsOk answer)
+described_well call D read =
+    record { bytes = well D (first_bytes read_limit call.before.desc) read.bytes; rest = read.rest; no_fault = read.no_fault }
+
+-- what was made is of the machine that was asked for
+asked_move : (call : Call) (pass : ℕ) (D : Desc) (story : Story) (status : Status) (source : Option MoverState) (loaded : Option StagedState)
+    (taken_over : Option CoreState) → form_of call.words ≡ Some (Run pass) → IsAsked call D → IfSome source (λ source. IsSourceOf D source)
+    → IfSome (option_map (λ source. made_by status source loaded taken_over) source)
+    (λ made. migrating_move.IsMoveOf (attempt_in call pass) story made)
+    → IfSome (option_map (λ source. made_by status source loaded taken_over) source) (λ made. IsMoveOf call story made)
+asked_move call pass D story status None loaded taken_over form asked same moves = tt
+asked_move call pass D story status (Some source) loaded taken_over form asked same moves =
+    record { asked = rw same.desc asked; move_of = rw form moves }
+
+-- a machine that was described, and migrated or not
+pub migrated : (pass : ℕ) (old new : MoveTells) (call : Call) (D : Desc) (migration : Migration) → IsCallOver pass old new call
+    → IsDescribed old.desc new.desc D → IsMigrated (attempt_of pass old.wires new.wires) D migration
+    → HasOutcome call migration.status (made_in migration)
+migrated pass old new call D migration over is moves =
+    let read = read_over read_limit (λ bytes. description_of bytes ≡ Ok D) old.desc new.desc call.before.desc call.now.desc over.before over.now is.read in
+    let here : IsMigrated (attempt_in call pass) D migration = rw (over.wires_before, over.wires_now) moves in
+    let story = story_of migration here.contact in
     record {
-      reached = tt;
-      explained = explained call Moved (cause_of call (Some Run) Moved over.asked (described_well call move.desc read));
-      move_of = record {
-        valid = is.valid;
-        asked = read.bytes;
-        parts = rw joint refl;
-        safe = record { run = run; states = states; owner = taken };
+      contact = here.contact;
+      outcome = record {
+        reached = reached_move migration.status (made_in migration) here.contact (attempt_in call pass) story here.explained.cause here.reached;
+        explained = explained_move call pass story over.asked (described_well call D read) here.explained;
+        move_of = asked_move call pass D story migration.status migration.source migration.loaded migration.taken_over over.asked read.bytes
+            here.source here.move_of;
+        untouched = here.untouched;
+        no_read_failed = λ other. (read.no_fault, rw over.unaudited refl);
       };
-      no_read_failed = λ other. (read.no_fault, rw over.unaudited refl);
     }
+
+-- a byte numbers the devices of a valid description
+few_devices : (D : Desc) → IsValid D → device_count D < 256
+few_devices D valid =
+    let few : device_count D ≤ 8 = valid.in_range.count_high in
+    omega arith
+
+-- what it made can be printed
+pub printable : (attempt : Attempt) (D : Desc) (migration : Migration) → IsValid D → IsMigrated attempt D migration → IsPrintableMigration migration
+printable attempt D migration valid moves =
+    parts_of migration.source migration.loaded migration.taken_over moves.source moves.loaded moves.taken_over
   where
-    well : (D : Desc) (bytes : Option (List ℕ)) → IfSome bytes (λ read. description_of read ≡ Ok D) → IfSome bytes (λ read. IsOk (description_of read))
-    well D None is = tt
-    well D (Some bytes) is = rw is refl
+    same_desc : {X : Type 0} (desc_in : X → Desc) (there : Option X) (E : Desc) → E ≡ D → IfSome there (λ x. desc_in x ≡ D)
+        → IfSome there (λ x. desc_in x ≡ E)
+    same_desc desc_in None E is all = tt
+    same_desc desc_in (Some x) E is all = all ∙ sym is
 
-    described_well : (call : Call) (D : Desc) → OfDescription call (λ answer. answer ≡ Ok D) → OfDescription call (λ answer. IsOk answer)
-    described_well call D read =
-        record { bytes = well D (first_bytes read_limit call.before.desc) read.bytes; rest = read.rest; no_fault = read.no_fault }
-
--- where a source copied everything, it found all devices in STOP_COPY
-pub joint_of : (D : Desc) (past : List Entry) → IsTrue (is_last_ended D past) → is_joint past ≡ true
-joint_of D past ended =
-    let both = and_parts (is_joint past && is_last_begun past) _ ended in
-    (and_parts (is_joint past) (is_last_begun past) both.0).0
+    parts_of : (source : Option MoverState) (loaded : Option StagedState) (taken_over : Option CoreState)
+        → IfSome source (λ source. IsSourceOf D source) → IfSome loaded (λ staged. staged.core.desc ≡ D)
+        → IfSome taken_over (λ core. core.desc ≡ D) → IfSome source (λ source. IsOfOneMachine source loaded taken_over)
+    parts_of None loaded taken_over same staged taken = tt
+    parts_of (Some source) loaded taken_over same staged taken =
+        record {
+          moves = same.moves;
+          few = rw same.desc (few_devices D valid);
+          loaded = same_desc (λ (staged : StagedState). staged.core.desc) loaded source.core.desc same.desc staged;
+          taken_over = same_desc (λ (core : CoreState). core.desc) taken_over source.core.desc same.desc taken;
+        }

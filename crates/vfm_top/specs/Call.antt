@@ -4,6 +4,8 @@ use Rattle.vfm_outside.specs.Told.{with_prepended}
 use Rattle.vfm_outside.specs.Counts.{Rose}
 use Rattle.vfm_outside.specs.Tells.{SourceTells, SinkTells, WiresTell}
 use Rattle.vfm_status.specs.declared.status.Status.{Status}
+use Rattle.vfm_move.specs.Causes.{Attempt}
+use Rattle.vfm_migrate.specs.Migrations.{attempt_of}
 
 -- what the description's source, the report's source, the wires and the output show at one moment
 pub record Outside : Type 0 where
@@ -24,6 +26,10 @@ pub record Call : Type 0 where
 
 abbrev pub call_of : List (List ℕ) → Outside → Outside → Status → Call
 call_of words before now answer = record { words = words; before = before; now = now; answer = answer }
+
+-- the attempt at a move that the call is, with the pass after whose end the source is to give up, 0 for none
+abbrev pub attempt_in : Call → ℕ → Attempt
+attempt_in call pass = attempt_of pass call.before.wires call.now.wires
 
 -- how many bytes of a description are read at the most: one more than it may have
 abbrev pub read_limit : ℕ

@@ -1,5 +1,5 @@
 -- The forms of words that the top call answers.
-use Rattle.std.specs.Prelude.{ℕ, ◌==◌, Bool, nat_eq, List, [], ◌∷◌, length, codes, Option, Some, None, if◌then◌else◌}
+use Rattle.std.specs.Prelude.{ℕ, ◌-◌, ◌==◌, ◌&&◌, Bool, nat_eq, nat_lt, List, [], ◌∷◌, length, codes, Option, Some, None, option_map, if◌then◌else◌}
 use Rattle.std.specs.Cmp.Lexicographic.{pointwise}
 use Rattle.vfm_types.specs.declared.state.MigState.{MigState}
 use Rattle.vfm_types.specs.declared.state.MigState.TheVariants.{Error, Stop, Running, StopCopy, Resuming, RunningP2p, PreCopy, PreCopyP2p}
@@ -36,9 +36,20 @@ abbrev pub paths_form : Option MigState → Option MigState → Option ℕ → O
 paths_form (Some from) (Some to) (Some flags) = Some (Paths from to flags)
 paths_form _ _ _ = None
 
--- the form `run FILE`, with any word that isn't empty
+-- the number of a pass that this word writes: one digit that isn't 0
+abbrev pub pass_named : List ℕ → Option ℕ
+pass_named (digit ∷ []) = if nat_lt 48 digit && nat_lt digit 58 then Some (digit - 48) else None
+pass_named _ = None
+
+-- the form `run FILE`, with any word that isn't empty: the source is never to give up
 abbrev pub run_form : List ℕ → List ℕ → Option Form
-run_form command file = if same_text command (codes "run") then (if length file == 0 then None else Some Run) else None
+run_form command file = if same_text command (codes "run") then (if length file == 0 then None else Some (Run 0)) else None
+
+-- the form `run FILE abort N`, with any word that isn't empty: the source is to give up once pass N has ended
+abbrev pub abort_form : List ℕ → List ℕ → List ℕ → List ℕ → Option Form
+abort_form command file abort pass =
+    if same_text command (codes "run") then
+    (if length file == 0 then None else (if same_text abort (codes "abort") then option_map Run (pass_named pass) else None)) else None
 
 -- the form `audit FILE REPORT`, with any two words that aren't empty
 abbrev pub audit_form : List ℕ → List ℕ → List ℕ → Option Form
@@ -46,12 +57,13 @@ audit_form command file report =
     if same_text command (codes "audit") then
     (if length file == 0 then None else (if length report == 0 then None else Some Audit)) else None
 
--- The form of these words, if they have one: `run FILE`, `audit FILE REPORT` or `paths FROM TO FLAGS`.
+-- The form of these words, if they have one: `run FILE`, `run FILE abort N`, `audit FILE REPORT` or `paths FROM TO FLAGS`.
 abbrev pub form_of : List (List ℕ) → Option Form
 form_of [] = None
 form_of (command ∷ []) = None
 form_of (command ∷ file ∷ []) = run_form command file
 form_of (command ∷ file ∷ report ∷ []) = audit_form command file report
 form_of (command ∷ from ∷ to ∷ flags ∷ []) =
-    if same_text command (codes "paths") then paths_form (state_named from) (state_named to) (flags_named flags) else None
+    if same_text command (codes "paths") then paths_form (state_named from) (state_named to) (flags_named flags)
+    else abort_form command from to flags
 form_of (command ∷ from ∷ to ∷ flags ∷ other ∷ words) = None

@@ -1,43 +1,74 @@
--- What is made of a move that the engine did, and of which calls it is the outcome.
-use Rattle.std.specs.Prelude.{◌≡◌, ◌<◌, Option, Some, None, option_map}
+-- What came of a description, and of which calls that is the outcome.
+use Rattle.std.specs.Prelude.{◌≡◌, ℕ, ◌<◌, Option, Some, None, IfSome}
 use Rattle.vfm_types.specs.Desc.{device_count}
-use Rattle.vfm_outside.specs.Tells.{SourceTells}
-use Rattle.vfm_plain.specs.Shape.{HasShape}
+use Rattle.vfm_outside.specs.Tells.{SourceTells, WiresTell}
 use Rattle.vfm_plain.specs.Report.{Made}
+use Rattle.vfm_core.specs.CoreState.{CoreState}
+use Rattle.vfm_source.specs.Moving.{past_in}
+use Rattle.vfm_source.specs.Source.{MoverState, Moves}
+use Rattle.vfm_dest.specs.StagedCores.{StagedState}
+use Rattle.vfm_status.specs.declared.status.Status.{Status}
+use Rattle.vfm_move.specs.Contact.{Contact, Untouched}
+use Rattle.vfm_move.specs.Causes.{Story}
+use Rattle.vfm_migrate.specs.declared.migration.Migration.{Migration}
+use Rattle.vfm_migrate.specs.Migrations.{made_in}
 use Rattle.vfm_top.specs.declared.words.Form.TheVariants.{Run, Audit}
-use Rattle.vfm_top.specs.declared.outcome.Move.{Move}
 use Rattle.vfm_top.specs.declared.outcome.Outcome.{Outcome}
+use Rattle.vfm_top.specs.declared.outcome.Outcome.TheVariants.{Undescribed, Migrated}
 use Rattle.vfm_top.specs.Form.{form_of}
 use Rattle.vfm_top.specs.Call.{Call}
+use Rattle.vfm_top.specs.Answers.{IsOutcome}
 
--- what a move made
-abbrev pub made_by : Move → Made
-made_by move =
-    record {
-      desc = move.desc;
-      source = move.moved.source.entries;
-      joint = Some move.moved.joint;
-      loaded = None;
-      destination = Some move.moved.destination.entries;
-      final = Some move.moved.final_state;
-    }
+-- the story of a call at whose end nothing was made
+abbrev pub nothing_made : Status → Story
+nothing_made status = record { status = status; made = None; contact = Untouched }
 
--- what was made, where a machine was moved
-abbrev pub made_in : Outcome → Option Made
-made_in outcome = option_map made_by outcome.made
+-- the status that an outcome is, and what was made, if a source was
+abbrev pub status_of : Outcome → Status
+status_of (Undescribed status) = status
+status_of (Migrated migration) = migration.status
 
--- the machines of a move have the sizes of its description
-pub record HasSizes (move : Move) : Type 0 where
-  pub joint : HasShape move.desc move.moved.joint
-  pub final : HasShape move.desc move.moved.final_state
-  pub few : device_count move.desc < 256
+abbrev pub made_of : Outcome → Option Made
+made_of (Undescribed status) = None
+made_of (Migrated migration) = made_in migration
 
--- a call that asks for a move, leaves the report's source alone, and whose description's source showed this before it and
--- after it
-pub record IsCallOver (old new : SourceTells) (call : Call) : Type 0 where
-  pub asked : form_of call.words ≡ Some Run
-  pub before : call.before.desc ≡ old
-  pub now : call.now.desc ≡ new
+-- A source keeps the machine at the joint stop; it, a machine that was loaded and one that was taken over are of one
+-- description, whose devices a byte can number.
+pub record IsOfOneMachine (source : MoverState) (other : Option StagedState) (taken : Option CoreState) : Type 0 where
+  pub moves : Moves (past_in source.core) source
+  pub few : device_count source.core.desc < 256
+  pub loaded : IfSome other (λ staged. staged.core.desc ≡ source.core.desc)
+  pub taken_over : IfSome taken (λ core. core.desc ≡ source.core.desc)
+
+-- the parts of an outcome are
+abbrev pub IsPrintableMigration : Migration → Type 0
+IsPrintableMigration migration = IfSome migration.source (λ source. IsOfOneMachine source migration.loaded migration.taken_over)
+
+abbrev pub IsPrintable : Outcome → Type 0
+IsPrintable (Undescribed status) = Unit {0}
+IsPrintable (Migrated migration) = IsPrintableMigration migration
+
+-- a call came to this status and to what was made, whatever came of the wires
+pub record HasOutcome (call : Call) (status : Status) (made : Option Made) : Type 0 where
+  pub contact : Contact
+  pub outcome : IsOutcome call (record { status = status; made = made; contact = contact })
+
+-- what the description's source and the wires show at one moment
+pub record MoveTells : Type 0 where
+  pub desc : SourceTells
+  pub wires : WiresTell
+
+abbrev pub move_tells : SourceTells → WiresTell → MoveTells
+move_tells desc wires = record { desc = desc; wires = wires }
+
+-- A call that asks for a move, after this pass the source is to give up; leaves the report's source alone; and over whose
+-- description's source and wires this was shown before it and after it.
+pub record IsCallOver (pass : ℕ) (old new : MoveTells) (call : Call) : Type 0 where
+  pub asked : form_of call.words ≡ Some (Run pass)
+  pub before : call.before.desc ≡ old.desc
+  pub now : call.now.desc ≡ new.desc
+  pub wires_before : call.before.wires ≡ old.wires
+  pub wires_now : call.now.wires ≡ new.wires
   pub unaudited : call.now.report ≡ call.before.report
 
 -- what both sources show at one moment
@@ -48,10 +79,11 @@ pub record SourcesTell : Type 0 where
 abbrev pub sources_tell : SourceTells → SourceTells → SourcesTell
 sources_tell desc report = record { desc = desc; report = report }
 
--- a call that asks for an audit, and whose sources showed this before it and after it
+-- a call that asks for an audit, leaves the wires alone, and whose sources showed this before it and after it
 pub record IsAuditOver (old new : SourcesTell) (call : Call) : Type 0 where
   pub asked : form_of call.words ≡ Some Audit
   pub desc_before : call.before.desc ≡ old.desc
   pub desc_now : call.now.desc ≡ new.desc
   pub report_before : call.before.report ≡ old.report
   pub report_now : call.now.report ≡ new.report
+  pub wires : call.now.wires ≡ call.before.wires

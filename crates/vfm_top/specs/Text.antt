@@ -47,6 +47,6 @@ audit_text status entries = status_line status
 -- what is printed for words of a form, or of none, at a status, with what was made, or with so many entries of a report
 abbrev pub text : Option Form → Status → Option Made → ℕ → List ℕ
 text None status made entries = status_line BadWords
-text (Some Run) status made entries = report status made
+text (Some (Run pass)) status made entries = report status made
 text (Some Audit) status made entries = audit_text status entries
 text (Some (Paths from to flags)) status made entries = path_text (path_of from to flags)

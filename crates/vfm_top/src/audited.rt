@@ -9,7 +9,7 @@ ghost use Rattle.vfm_report.specs.Readers.{made_from};
 ghost use Rattle.vfm_top.specs.declared.words.Form.TheVariants.{Audit};
 ghost use Rattle.vfm_top.specs.Answers.{IsCounted, IsOutcome};
 ghost use Rattle.vfm_top.specs.Call.{Call as Called, read_limit, report_limit, IsPrefixRead, IsReadTo};
-ghost use Rattle.vfm_top.specs.Outcome.{IsAuditOver, sources_tell};
+ghost use Rattle.vfm_top.specs.Outcome.{IsAuditOver, nothing_made, sources_tell};
 ghost use Rattle.vfm_top.specs.Sources.{IsAudited, IsNoReport, IsShortReport, IsUnreported, entries_of_audit, status_of_audit};
 
 use crate::Status;
@@ -103,7 +103,7 @@ fn audit_printed<R: Source>(alloc: Global, desc: &Desc, report: &mut R) -> Audit
 pub fn audit_sources<D: Source, R: Source>(alloc: Global, desc: &mut D, report: &mut R) -> Audited
     ensures outcome { let old = sources_tell (source_tells (D.left desc.old) (D.faults desc.old)) (source_tells (R.left report.old) (R.faults report.old)) in
         let new = sources_tell (source_tells (D.left desc.new) (D.faults desc.new)) (source_tells (R.left report.new) (R.faults report.new)) in
-        (call : Called) → IsAuditOver old new call → IsOutcome call result.status None }
+        (call : Called) → IsAuditOver old new call → IsOutcome call (nothing_made result.status) }
     ensures counted { let old = sources_tell (source_tells (D.left desc.old) (D.faults desc.old)) (source_tells (R.left report.old) (R.faults report.old)) in
         let new = sources_tell (source_tells (D.left desc.new) (D.faults desc.new)) (source_tells (R.left report.new) (R.faults report.new)) in
         (call : Called) → IsAuditOver old new call → IsCounted (Some Audit) result.status result.entries call }

@@ -1,11 +1,11 @@
 //! The top call.
 
-ghost use Rattle.std.specs.Prelude.{◌≡◌, ◌↔◌, Some, None, IfSome, map, string_bytes};
+ghost use Rattle.std.specs.Prelude.{◌≡◌, ◌↔◌, Some, None, IfSome, IsTrue, map, string_bytes};
 ghost use Rattle.vfm_outside.specs.Tells.{WiresTell, source_tells, sink_tells, wires_tell};
-ghost use Rattle.vfm_top.specs.declared.words.Form.TheVariants.{Run};
 ghost use Rattle.vfm_top.specs.Form.{form_of};
 ghost use Rattle.vfm_top.specs.Call.{outside, call_of};
 ghost use Rattle.vfm_top.specs.Answers.{Ends, Promises};
+ghost use Rattle.vfm_top.specs.Causes.{is_run};
 ghost use Rattle.vfm_top.specs.Text.{path_status, path_text};
 ghost use Rattle.vfm_types.specs.Paths.{path_of};
 
@@ -13,7 +13,7 @@ use crate::Status;
 use crate::audited::audit_sources;
 use crate::outcome::outcome_of_source;
 use crate::print::{print_audit, print_line, print_outcome, print_path};
-use crate::words::{Form, read_words};
+use crate::words::{Form, abort_after, read_words};
 use std::alloc::Global;
 use std::sync::Wait;
 use std::thread::Threads;
@@ -38,7 +38,7 @@ pub fn local<D: Source, R: Source, S: Sink>(
     report: &mut R,
     out: &mut S,
 ) -> Option<Status>
-    ensures machine { result ≡ None ↔ form_of (map string_bytes words.now) ≡ Some Run }
+    ensures machine { result ≡ None ↔ IsTrue (is_run (form_of (map string_bytes words.now))) }
     ensures unwritten { result ≡ None → sink_tells (S.holds out.new) (S.faults out.new) ≡ sink_tells (S.holds out.old) (S.faults out.old) }
     ensures unread { result ≡ None → source_tells (D.left desc.new) (D.faults desc.new) ≡ source_tells (D.left desc.old) (D.faults desc.old) }
     ensures untouched { result ≡ None → source_tells (R.left report.new) (R.faults report.new) ≡ source_tells (R.left report.old) (R.faults report.old) }
@@ -53,19 +53,20 @@ pub fn local<D: Source, R: Source, S: Sink>(
     match form {
         Form::Paths { from, to, flags } => Some(answer_path(from, to, flags, out)),
         Form::Audit => Some(print_audit(audit_sources(alloc, desc, report), out)),
-        Form::Run => None,
+        Form::Run { abort_after: _ } => None,
     }
 }
 
 /// Does what the words ask for, prints it, and answers how that ended.
 ///
-/// The words, without the program's name, are `run FILE`, which moves the machine that `desc` describes and prints the
-/// report; `audit FILE REPORT`, which audits what `report` gives as the report of a run of that machine; or
+/// The words, without the program's name, are `run FILE`, which migrates the machine that `desc` describes over `wires` and
+/// prints the report; `run FILE abort N`, with N from 1 to 9, which does the same, but the source gives up once pass N has
+/// ended; `audit FILE REPORT`, which audits what `report` gives as the report of a run of that machine; or
 /// `paths FROM TO FLAGS`, which prints a path between device states. Others are `BadWords`. A description is read to its
 /// end or up to 16,777,217 bytes, by `run` and `audit` alone, and a report to its end or up to 134,217,729 bytes, by
-/// `audit` alone; a failed read is `ReadFault`, whatever another read would give. Where a write to `out` fails, the
-/// answer is `WriteFault`, and `out` has a prefix of the text. `wires` and `beat` are for forms of words that aren't built
-/// yet; no form touches them.
+/// `audit` alone; a failed read is `ReadFault`, whatever another read would give. `wires` are asked for links once at most,
+/// by `run` alone, and get them back before anything is printed. Where a write to `out` fails, the answer is `WriteFault`,
+/// and `out` has a prefix of the text. `beat` is for workers, of which there are none yet.
 pub fn run<H: Threads + Wait + Sync, D: Source, R: Source, S: Sink, W: Wires, B: Beat + Sync>(
     _rt: &H,
     alloc: Global,
@@ -85,6 +86,9 @@ pub fn run<H: Threads + Wait + Sync, D: Source, R: Source, S: Sink, W: Wires, B:
 {
     match local(alloc, words, desc, report, out) {
         Some(status) => status,
-        None => print_outcome(outcome_of_source(alloc, desc), out),
+        None => print_outcome(
+            outcome_of_source(alloc, desc, wires, abort_after(words)),
+            out,
+        ),
     }
 }

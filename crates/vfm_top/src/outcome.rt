@@ -1,64 +1,41 @@
-//! What `run FILE` comes to: the description read, and the described machine moved.
+//! What `run FILE` comes to: the description read, and the described machine migrated.
 
-ghost use Rattle.std.specs.Prelude.{◌≡◌, IfSome};
-ghost use Rattle.vfm_types.specs.Valid.{IsValid};
-ghost use Rattle.vfm_outside.specs.Tells.{SourceTells, source_tells};
-ghost use Rattle.vfm_desc.specs.BuiltForms.{IsBuilt};
+ghost use Rattle.vfm_outside.specs.Tells.{source_tells, wires_tell};
 ghost use Rattle.vfm_top.specs.Call.{Call as Called, read_limit, IsPrefixRead};
-ghost use Rattle.vfm_top.specs.Answers.{IsOutcome};
-ghost use Rattle.vfm_top.specs.Outcome.{made_in, HasSizes, IsCallOver};
-ghost use Rattle.vfm_top.specs.Sources.{IsDescribed};
+ghost use Rattle.vfm_top.specs.Outcome.{HasOutcome, IsCallOver, IsPrintable, made_of, move_tells, status_of};
 
 use crate::Status;
 use crate::description::read_description;
 use std::alloc::Global;
-use vfm_outside::Source;
-use vfm_solo::{Moved, move_one};
-use vfm_types::Desc;
+use vfm_migrate::{Migration, migrate};
+use vfm_outside::{Source, Wires};
 
-/// A machine, and what its move made.
+/// What a call that asks for a move came to.
 #[derive(Drop)]
-pub struct Move {
-    pub desc: Desc,
-    pub moved: Moved,
+pub enum Outcome {
+    /// No machine was described.
+    Undescribed(Status),
+    /// The described machine was migrated, or not.
+    Migrated(Migration),
 }
 
-/// What a run came to, and what it made where a source was made.
-#[derive(Drop)]
-pub struct Outcome {
-    pub status: Status,
-    pub made: Option<Move>,
-}
-
-/// Moves this machine.
-fn outcome_of_machine(alloc: Global, desc: Desc) -> Outcome
-    requires valid { IsValid desc }
-    requires built { IsBuilt desc }
-    ensures outcome { (old new : SourceTells) (call : Called) → IsCallOver old new call → IsDescribed old new desc
-        → IsOutcome call result.status (made_in result) }
-    ensures sizes { IfSome result.made (λ move. HasSizes move) }
-{
-    match move_one(alloc, &desc) {
-        Err(_) => Outcome {
-            status: Status::NoMemory,
-            made: None,
-        },
-        Ok(moved) => Outcome {
-            status: Status::Moved,
-            made: Some(Move { desc, moved }),
-        },
-    }
-}
-
-/// Reads a description and moves the machine that it describes.
-pub fn outcome_of_source<D: Source>(alloc: Global, desc: &mut D) -> Outcome
-    ensures outcome { (call : Called) → IsCallOver (source_tells (D.left desc.old) (D.faults desc.old)) (source_tells (D.left desc.new) (D.faults desc.new)) call
-        → IsOutcome call result.status (made_in result) }
-    ensures sizes { IfSome result.made (λ move. HasSizes move) }
+/// Reads a description and migrates the machine that it describes; the source is to give up once this pass has ended, with 0
+/// never.
+pub fn outcome_of_source<D: Source, W: Wires>(
+    alloc: Global,
+    desc: &mut D,
+    wires: &mut W,
+    abort_after: u32,
+) -> Outcome
+    ensures outcome { (call : Called)
+        → IsCallOver abort_after (move_tells (source_tells (D.left desc.old) (D.faults desc.old)) (wires_tell (W.asked wires.old) (W.carried wires.old) (W.faults wires.old)))
+        (move_tells (source_tells (D.left desc.new) (D.faults desc.new)) (wires_tell (W.asked wires.new) (W.carried wires.new) (W.faults wires.new))) call
+        → HasOutcome call (status_of result) (made_of result) }
+    ensures printable { IsPrintable result }
     ensures read { IsPrefixRead read_limit (source_tells (D.left desc.old) (D.faults desc.old)) (source_tells (D.left desc.new) (D.faults desc.new)) }
 {
     match read_description(alloc, desc) {
-        Ok(desc) => outcome_of_machine(alloc, desc),
-        Err(status) => Outcome { status, made: None },
+        Ok(desc) => Outcome::Migrated(migrate(alloc, desc, wires, abort_after)),
+        Err(status) => Outcome::Undescribed(status),
     }
 }

@@ -5,7 +5,7 @@ use std::alloc::Global;
 use std::sync::Wait;
 use std::test::Fail;
 use std::thread::Threads;
-use vfm_outside::{MemSink, MemSource, NoBeat, ScriptWires};
+use vfm_outside::{MemSink, MemSource, NoBeat, RingWires, ScriptWires, Wires};
 
 const ONE: &str =
     r#"{"session":7,"page":16,"pages":2,"channels":1,"version":1,"begin":99,"rounds":0,"threshold":0,"devices":[{"name":"a","flags":1,"bar":64,"window":1,"tells":true,"budget":1,"fails":0,"jobs":[{"kind":"write","at":18,"hex":"01020304"}],"queue":[0]}]}"#;
@@ -34,6 +34,8 @@ const STATE: [&str; 5] = [
     "buf 0 00000000000000000000000000000000000000000000000000000000000000000000000000000000000000000000000000000000000000000000000000000000",
     "bar 0 00000000000000000000000000000000000000000000000000000000000000000000000000000000000000000000000000000000000000000000000000000000",
 ];
+
+const WRITE: [&str; 3] = ["issue 0 0", "deliver 0 0", "complete 0 0"];
 
 const DESTINATION: [&str; 4] = [
     "journal destination",
@@ -64,7 +66,35 @@ fn report_of_one(alloc: Global) -> Result<Vec<u8>, Fail> {
     Ok(text)
 }
 
-// Runs these words, with a source of this text whose reads of these numbers fail.
+// The report of the machine `ONE` whose source gave up behind its only pass.
+fn report_of_one_aborted(alloc: Global) -> Result<Vec<u8>, Fail> {
+    let mut text = Vec::new(alloc);
+    add_lines(&mut text, &["status aborted 1"])?;
+    add_lines(&mut text, &SOURCE[1..])?;
+    add_lines(&mut text, &["abort", "arc 0 STOP", "arc 0 RUNNING"])?;
+    add_lines(&mut text, &["state joint"])?;
+    add_lines(&mut text, &STATE)?;
+    add_lines(&mut text, &["state final"])?;
+    add_lines(&mut text, &STATE)?;
+    add_lines(&mut text, &["end"])?;
+    Ok(text)
+}
+
+// The report of the machine `ONE` for which there were no links.
+fn report_of_one_alone(alloc: Global) -> Result<Vec<u8>, Fail> {
+    let mut text = Vec::new(alloc);
+    add_lines(
+        &mut text,
+        &["status link-fault connect", "journal source", "abort"],
+    )?;
+    add_lines(&mut text, &WRITE)?;
+    add_lines(&mut text, &["state final"])?;
+    add_lines(&mut text, &STATE)?;
+    add_lines(&mut text, &["end"])?;
+    Ok(text)
+}
+
+// Runs these words over rings, with a source of this text whose reads of these numbers fail.
 fn run_words<H: Threads + Wait + Sync>(
     rt: &H,
     alloc: Global,
@@ -73,20 +103,33 @@ fn run_words<H: Threads + Wait + Sync>(
     failing: &[u32],
     out: &mut MemSink,
 ) -> Result<Status, Fail> {
+    let mut wires = RingWires::of(alloc, 64, 0, Vec::new(alloc));
+    run_over(rt, alloc, words, text, failing, &mut wires, out)
+}
+
+// The same over these wires.
+fn run_over<H: Threads + Wait + Sync, W: Wires>(
+    rt: &H,
+    alloc: Global,
+    words: &[&str],
+    text: &str,
+    failing: &[u32],
+    wires: &mut W,
+    out: &mut MemSink,
+) -> Result<Status, Fail> {
     let mut list = Vec::new(alloc);
     for word in words {
         list.push(String::from_str(alloc, word)?)?;
     }
     let mut desc = MemSource::of(text.as_bytes().to_vec(alloc)?, failing.to_vec(alloc)?, 100);
     let mut report = MemSource::of(Vec::new(alloc), Vec::new(alloc), 1);
-    let mut wires = ScriptWires::of(alloc, None);
     Ok(run(
         rt,
         alloc,
         list.as_slice(),
         &mut desc,
         &mut report,
-        &mut wires,
+        wires,
         out,
         &NoBeat,
     ))
@@ -123,9 +166,49 @@ fn one_machine_is_moved(rt: HostRuntime) -> Result<(), Fail> {
 }
 
 #[test]
+fn a_source_gives_up_after_a_pass(rt: HostRuntime) -> Result<(), Fail> {
+    let alloc = rt.alloc();
+    let mut out = ample(alloc)?;
+    let words = ["run", "one.json", "abort", "1"];
+    let status = run_words(&rt, alloc, &words, ONE, &[], &mut out)?;
+    assert_eq!(rt; number(&status), 10);
+    assert_eq!(rt; out.bytes(), report_of_one_aborted(alloc)?.as_slice());
+    Ok(())
+}
+
+// The machine has one pass, so the second never ends.
+#[test]
+fn a_pass_that_never_comes_stops_no_move(rt: HostRuntime) -> Result<(), Fail> {
+    let alloc = rt.alloc();
+    let mut out = ample(alloc)?;
+    let words = ["run", "one.json", "abort", "2"];
+    let status = run_words(&rt, alloc, &words, ONE, &[], &mut out)?;
+    assert_eq!(rt; number(&status), 0);
+    assert_eq!(rt; out.bytes(), report_of_one(alloc)?.as_slice());
+    Ok(())
+}
+
+#[test]
+fn without_links_the_source_goes_on(rt: HostRuntime) -> Result<(), Fail> {
+    let alloc = rt.alloc();
+    let mut out = ample(alloc)?;
+    let mut wires = ScriptWires::of(alloc, None);
+    let words = ["run", "one.json"];
+    let status = run_over(&rt, alloc, &words, ONE, &[], &mut wires, &mut out)?;
+    assert_eq!(rt; number(&status), 5);
+    assert_eq!(rt; out.bytes(), report_of_one_alone(alloc)?.as_slice());
+    Ok(())
+}
+
+#[test]
 fn words_without_a_form_are_refused(rt: HostRuntime) -> Result<(), Fail> {
     let alloc = rt.alloc();
-    let rows: [&[&str]; 7] = [
+    let rows: [&[&str]; 12] = [
+        &["run", "x", "abort", "0"],
+        &["run", "x", "abort", "10"],
+        &["run", "x", "abort", ""],
+        &["run", "x", "stop", "1"],
+        &["run", "", "abort", "1"],
         &[],
         &["run"],
         &["run", ""],

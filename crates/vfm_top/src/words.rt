@@ -1,7 +1,8 @@
 //! The forms of words.
 
 ghost use Rattle.std.specs.Prelude.{◌≡◌, map, string_bytes};
-ghost use Rattle.vfm_top.specs.Form.{same_text, state_named, flags_named, form_of};
+ghost use Rattle.vfm_top.specs.Causes.{pass_of};
+ghost use Rattle.vfm_top.specs.Form.{same_text, state_named, flags_named, pass_named, form_of};
 ghost use Rattle.vfm_top.specs.Form as spec;
 
 use vfm_types::{Flags, MigState};
@@ -9,8 +10,11 @@ use vfm_types::{Flags, MigState};
 /// What the words ask for.
 #[derive(Debug, Drop)]
 pub enum Form {
-    /// `run FILE`: move the described machine.
-    Run,
+    /// `run FILE` or `run FILE abort N`: move the described machine. The source gives up once pass `abort_after` has ended; 0
+    /// is never.
+    Run {
+        abort_after: u32,
+    },
     /// `audit FILE REPORT`: audit the report of a run of the described machine.
     Audit,
     /// `paths FROM TO FLAGS`: print the path between two states.
@@ -88,7 +92,40 @@ fn run(command: &String, file: &String) -> Option<Form>
     if file.is_empty() {
         return None;
     }
-    Some(Form::Run)
+    Some(Form::Run { abort_after: 0 })
+}
+
+/// The number of a pass that a word writes: one digit that isn't 0.
+fn pass(word: &String) -> Option<u32>
+    ensures { result ≡ pass_named (string_bytes word.now) }
+{
+    let digits = word.as_bytes();
+    if digits.len() != 1 {
+        return None;
+    }
+    match digits[0] {
+        digit @ b'1'..=b'9' => Some(u32::from(digit - b'0')),
+        _ => None,
+    }
+}
+
+/// The form `run FILE abort N`.
+fn run_abort(command: &String, file: &String, abort: &String, word: &String) -> Option<Form>
+    ensures { result ≡ spec.abort_form (string_bytes command.now) (string_bytes file.now) (string_bytes abort.now) (string_bytes word.now) }
+{
+    if !is_word(command, b"run") {
+        return None;
+    }
+    if file.is_empty() {
+        return None;
+    }
+    if !is_word(abort, b"abort") {
+        return None;
+    }
+    match pass(word) {
+        Some(abort_after) => Some(Form::Run { abort_after }),
+        None => None,
+    }
 }
 
 /// The form `audit FILE REPORT`.
@@ -131,8 +168,18 @@ pub fn read_words(words: &[String]) -> Option<Form>
         return if is_word(&words[0], b"paths") {
             paths(&words[1], &words[2], &words[3])
         } else {
-            None
+            run_abort(&words[0], &words[1], &words[2], &words[3])
         };
     }
     None
+}
+
+/// The pass after whose end the source is to give up: 0 is never, also for words that ask for no move.
+pub fn abort_after(words: &[String]) -> u32
+    ensures { result ≡ pass_of (form_of (map string_bytes words.now)) }
+{
+    match read_words(words) {
+        Some(Form::Run { abort_after }) => abort_after,
+        _ => 0,
+    }
 }

@@ -15,6 +15,8 @@ returns-in-Audit-clause-promises g c = λ wires.
     let audit = c.audit_sources in
     let form = sym c.in-Some.ensures ∙ ap Some c.in-Audit.is in
     with_audit _ audit.result.status audit.result.entries form
-    (audit.ensures.outcome _ (record { asked = form; desc_before = refl; desc_now = refl; report_before = refl; report_now = refl }))
-    (audit.ensures.counted _ (record { asked = form; desc_before = refl; desc_now = refl; report_before = refl; report_now = refl }))
+    (audit.ensures.outcome _
+    (record { asked = form; desc_before = refl; desc_now = refl; report_before = refl; report_now = refl; wires = refl }))
+    (audit.ensures.counted _
+    (record { asked = form; desc_before = refl; desc_now = refl; report_before = refl; report_now = refl; wires = refl }))
     audit.ensures.read audit.ensures.report_read refl c.print_audit.ensures

@@ -1,7 +1,7 @@
 -- Either kind of words is answered as it is to be.
-use Rattle.std.proofs.Common.{refl, sym}
-use Rattle.vfm_top.specs.Outcome.{made_in}
-use Rattle.vfm_top.proofs.Promises.{with_move}
+use Rattle.std.proofs.Common.{refl, sym, ◌∙◌, ap}
+use Rattle.vfm_top.specs.Outcome.{made_of, status_of}
+use Rattle.vfm_top.proofs.Promises.{asked_run, with_move}
 use Rattle.vfm_top.proofs.call.run.Goals as goal
 
 pub returns-in-Some : goal.returns-in-Some
@@ -12,9 +12,10 @@ returns-in-None g c =
     let here = c.in-None.ensures in
     let outcome = c.outcome_of_source in
     let unread = here.unread refl in
-    with_move _ outcome.result.status (made_in outcome.result) (here.machine.0 refl)
-    (outcome.ensures.outcome _ (record { asked = here.machine.0 refl; before = sym unread; now = refl; unaudited = here.untouched refl }))
+    let form = asked_run _ (here.machine.0 refl) c.abort_after.result c.abort_after.ensures in
+    with_move _ c.abort_after.result (status_of outcome.result) (made_of outcome.result) form
+    (outcome.ensures.outcome _
+    (record { asked = form; before = sym unread; now = refl; wires_before = refl; wires_now = refl; unaudited = here.untouched refl }))
     (rw (← unread) outcome.ensures.read)
     (here.untouched refl)
-    refl
     (rw (← here.unwritten refl) c.print_outcome.ensures)

@@ -1,0 +1,86 @@
+-- The control links of a move: the destination's answer and Go, and the status that comes of them.
+use Rattle.std.specs.Prelude.{◌≡◌, ℕ, All, List, length, map, Result, Ok, Err, MatchResult, ⊤}
+use Rattle.vfm_types.specs.declared.desc.Desc.{Desc}
+use Rattle.vfm_types.specs.declared.fault.LinkFault.{LinkFault as NotSent}
+use Rattle.vfm_types.specs.declared.fault.LinkPlace.TheVariants.{Control, Source}
+use Rattle.vfm_outside.specs.Counts.{Rose}
+use Rattle.vfm_outside.specs.Links.{IsNew, Told, ToldEnds}
+use Rattle.vfm_core.specs.CoreState.{CoreState}
+use Rattle.vfm_control.specs.Frame.{frame_bytes}
+use Rattle.vfm_handshake.specs.declared.fault.GoFault.{GoFault}
+use Rattle.vfm_handshake.specs.declared.fault.GoFault.TheVariants as going
+use Rattle.vfm_handshake.specs.declared.fault.SettleFault.{SettleFault}
+use Rattle.vfm_handshake.specs.declared.fault.SettleFault.TheVariants as settling
+use Rattle.vfm_handshake.specs.Control.{Receipt, Settles}
+use Rattle.vfm_streams.specs.Verdict.{Verdict}
+use Rattle.vfm_source.specs.declared.fault.OfferFault.{OfferFault}
+use Rattle.vfm_source.specs.declared.fault.OfferFault.TheVariants as offering
+use Rattle.vfm_status.specs.declared.status.Doubt.{Doubt}
+use Rattle.vfm_status.specs.declared.status.Doubt.TheVariants as doubts
+use Rattle.vfm_status.specs.declared.status.Status.{Status}
+use Rattle.vfm_status.specs.declared.status.Status.TheVariants as statuses
+use Rattle.vfm_move.specs.Contact.{Linked, Lines, WhereTold}
+use Rattle.vfm_move.specs.Carried.{verdict_frame}
+use Rattle.vfm_move.specs.Causes.{Attempt}
+use Rattle.vfm_move.specs.Move.{IsUnheard}
+use Rattle.vfm_migrate.specs.Brought.{BroughtBy}
+use Rattle.vfm_migrate.specs.Offered.{IsOffered}
+
+-- ---- statuses
+
+-- where an offer failed
+abbrev pub status_of_offer : OfferFault → Status
+status_of_offer (offering.Link k) = statuses.LinkFault (Source k)
+status_of_offer (offering.Aborted pass) = statuses.Aborted pass
+status_of_offer (offering.ArcFailed d to) = statuses.ArcFailed d to
+status_of_offer offering.NoMemory = statuses.NoMemory
+
+-- where the source didn't hear its own digest
+abbrev pub status_of_settle : SettleFault → Status
+status_of_settle settling.Link = statuses.LinkFault Control
+status_of_settle (settling.Refused refusal) = statuses.Refused refusal
+status_of_settle (settling.Unconfirmed ours theirs) = statuses.Unconfirmed ours theirs
+status_of_settle (settling.NoControl heard) = statuses.NoControl heard
+
+-- the doubt where the destination didn't hear Go for its own digest
+abbrev pub doubt_of : GoFault → Doubt
+doubt_of going.Link = doubts.Read
+doubt_of (going.NoGo heard) = doubts.NoGo heard
+doubt_of (going.Other ours theirs) = doubts.Other ours theirs
+
+-- ---- the answer
+
+-- The source offered all of its machine over its channels, and nothing hindered it; its control link is new, and over the
+-- destination's nothing was heard.
+pub record AwaitsAnswer (attempt : Attempt) (core : CoreState) (digest : List ℕ) (ends : ToldEnds) : Type 0 where
+  pub offered : IsOffered attempt.abort_after core ends.source (Ok digest)
+  pub source : IsNew ends.source_control
+  pub dest : IsUnheard ends.dest_control
+
+-- the destination's channels were read out, and it sent the frame of this verdict on what they brought
+pub record IsAnsweredBy (D : Desc) (v : Verdict) (lines : Lines) : Type 0 where
+  pub brought : BroughtBy D lines.dest v
+  pub sent : lines.dest_control.sent ≡ frame_bytes (verdict_frame D v)
+
+-- so it is where the links tell their bytes
+abbrev pub HasAnsweredBy : Desc → Verdict → ToldEnds → Type 0
+HasAnsweredBy D v ends = WhereTold (Linked ends) (IsAnsweredBy D v)
+
+-- the answer was sent, or the destination's control link failed
+abbrev pub AnswersOrFails : Desc → Verdict → ToldEnds → Result ⊤ NotSent → Type 0
+AnswersOrFails D v ends answered = MatchResult answered (λ _. HasAnsweredBy D v ends) (λ _. Rose 0 ends.dest_control.failed_out)
+
+-- what a link received in a call
+abbrev pub receipt : Told → Told → Receipt
+receipt before now = record { before = before.received; now = now.received; had_ended = before.ended; ended = now.ended }
+
+-- The source's control link from before the answer was waited for to after it.
+pub record HearsAnswer (session : ℕ) (own : List ℕ) (before now : Told) (result : Result ⊤ SettleFault) : Type 0 where
+  pub settles : Settles session own (receipt before now) result
+  pub fault : result ≡ Err settling.Link → Rose before.failed_in now.failed_in
+  pub sent : now.sent ≡ before.sent
+  pub failed_out : now.failed_out ≡ before.failed_out
+
+-- the ends with this source control link
+abbrev pub with_source : Told → ToldEnds → ToldEnds
+with_source link ends = record ends { source_control = link }

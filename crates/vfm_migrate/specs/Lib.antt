@@ -1,0 +1,9 @@
+pub mod Links
+pub mod Offered
+pub mod Brought
+pub mod Answers
+pub mod Carrying
+pub mod Committing
+pub mod Concluding
+pub mod Migrations
+pub mod Outcomes

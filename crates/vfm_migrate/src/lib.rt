@@ -1,0 +1,11 @@
+//! The call that migrates a machine: both ends over one set of links, as a move whose meaning `vfm_move` says.
+#![tactic(auto)]
+
+mod carrying;
+mod committing;
+mod concluding;
+mod migration;
+mod step;
+
+pub use migration::{Migration, migrate};
+pub use step::Step;
