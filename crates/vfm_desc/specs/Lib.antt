@@ -1,5 +1,3 @@
 pub mod Members
-pub mod Built
-pub mod BuiltForms
 pub mod Reading
 pub mod Described

@@ -19,7 +19,6 @@ use Rattle.vfm_desc.specs.declared.reading.Level.{Level}
 use Rattle.vfm_desc.specs.declared.reading.Level.TheVariants.{Top, OfDevice, OfJob}
 use Rattle.vfm_types.specs.Ranges.{takes, most_bars, are_bar_sizes}
 use Rattle.vfm_desc.specs.Members.{member_name}
-use Rattle.vfm_desc.specs.Built.{is_built, is_kind_built}
 
 -- the next step, where the one before found no fault
 infixl 10 ◌>>=◌
@@ -57,11 +56,10 @@ whole_number field value = do
   number ← ok_or (as_number value) (fault.Kind field)
   ok_or (as_u64 number) (fault.Range field)
 
--- the number is one that the member takes, and is built
+-- the number is one that the member takes
 unfoldable pub ranged : Level → FieldName → ℕ → Result ℕ DescFault
 ranged level name n = do
   taken ← check (takes name n) (fault.Range (field_at level name))
-  built ← check (is_built name n) (fault.NotYet (field_at level name))
   Ok n
 
 -- a member that is a number
@@ -112,9 +110,7 @@ kind_of text =
 unfoldable pub kind_in : Data → Level → Result JobKind DescFault
 kind_in holder level = do
   text ← text_in holder level Kind
-  kind ← ok_or (kind_of text) (fault.Range (field_at level Kind))
-  built ← check (is_kind_built kind) (fault.NotYet (field_at level Kind))
-  Ok kind
+  ok_or (kind_of text) (fault.Range (field_at level Kind))
 
 -- the elements of a JSON list
 abbrev pub elements : Items → List Data

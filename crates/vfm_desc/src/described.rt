@@ -3,7 +3,6 @@
 ghost use Rattle.std.specs.Prelude.{◌≡◌, IfOk};
 ghost use Rattle.serde_json.specs.View.{view};
 ghost use Rattle.vfm_types.specs.Valid.{InRange, IsValid};
-ghost use Rattle.vfm_desc.specs.BuiltForms.{IsBuilt};
 ghost use Rattle.vfm_desc.specs.Reading.{Gives};
 ghost use Rattle.vfm_desc.specs.Described as spec;
 
@@ -39,7 +38,6 @@ fn parsed(alloc: Global, bytes: &[u8]) -> Result<Value, DescFault>
 fn desc(alloc: Global, object: &Value) -> Result<Desc, DescFault>
     ensures value { Gives (λ desc. desc) result (spec.desc_in (view object.now)) }
     ensures in_range { IfOk result InRange }
-    ensures built { IfOk result IsBuilt }
 {
     let level = Level::Top;
     let session = number(object, level, FieldName::Session)?;
@@ -70,7 +68,6 @@ fn desc(alloc: Global, object: &Value) -> Result<Desc, DescFault>
 pub fn read_desc(alloc: Global, bytes: &[u8]) -> Result<Desc, DescFault>
     ensures value { Gives (λ desc. desc) result (spec.description_of bytes.now) }
     ensures valid { IfOk result IsValid }
-    ensures built { IfOk result IsBuilt }
 {
     let value = parsed(alloc, bytes)?;
     let desc = desc(alloc, &value)?;

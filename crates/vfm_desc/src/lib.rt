@@ -2,11 +2,9 @@
 //!
 //! `read_desc` answers what the definition `description_of` (`specs/Described.antt`) says of the bytes: a valid
 //! description, or the first fault in the order of the tests, with its member. The definition goes over the value that
-//! `serde_json` reads, one member after the other, by the table of ranges of `vfm_types`. What isn't built yet stands in
-//! `specs/Built.antt` and nowhere else.
+//! `serde_json` reads, one member after the other, by the table of ranges of `vfm_types`.
 #![tactic(auto)]
 
-mod built;
 mod described;
 mod members;
 mod parts;

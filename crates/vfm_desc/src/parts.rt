@@ -4,11 +4,8 @@ ghost use Rattle.std.specs.Prelude.{◌≡◌, ◌<◌, ◌≤◌, ◌^◌, All,
 ghost use Rattle.std.specs.List.{list_all};
 ghost use Rattle.serde_json.specs.View.{view};
 ghost use Rattle.vfm_types.specs.declared.fault.FieldName.TheVariants as field;
-ghost use Rattle.vfm_types.specs.Job.{is_write};
 ghost use Rattle.vfm_types.specs.State.{is_flags};
 ghost use Rattle.vfm_types.specs.Valid.{ShapeInRange, is_job_in_range};
-ghost use Rattle.vfm_desc.specs.Built.{is_kind_built};
-ghost use Rattle.vfm_desc.specs.BuiltForms.{IsShapeBuilt};
 ghost use Rattle.vfm_desc.specs.Reading.{Gives, each, number_in};
 ghost use Rattle.vfm_desc.specs.Described as spec;
 
@@ -29,7 +26,6 @@ fn work(
 ) -> Result<Job, DescFault>
     ensures value { Gives (λ job. job) result (spec.work_in (view object.now) level kind at) }
     ensures in_range { IfOk result (λ job. IsTrue (is_job_in_range job)) }
-    ensures built { IfOk result (λ job. is_write job ≡ is_kind_built kind) }
 {
     match kind {
         JobKind::Write => {
@@ -56,7 +52,6 @@ fn work(
 fn job(alloc: Global, object: &Value, d: u32, j: u32) -> Result<Job, DescFault>
     ensures value { Gives (λ job. job) result (spec.job_in d j (view object.now)) }
     ensures in_range { IfOk result (λ job. IsTrue (is_job_in_range job)) }
-    ensures built { IfOk result (λ job. IsTrue (is_write job)) }
 {
     let level = Level::OfJob(d, j);
     let kind = kind(object, level)?;
@@ -70,7 +65,6 @@ fn each_job(alloc: Global, objects: &[Value], d: u32) -> Result<Vec<Job>, DescFa
     ensures value { Gives (λ jobs. jobs.items) result (each (spec.job_in d) 0 (map view objects.now)) }
     ensures count { IfOk result (λ jobs. vec_len jobs ≤ 4096) }
     ensures in_range { IfOk result (λ jobs. IsTrue (list_all is_job_in_range jobs.items)) }
-    ensures built { IfOk result (λ jobs. IsTrue (list_all is_write jobs.items)) }
 {
     let mut jobs = Vec::new(alloc);
     for (j, object) in objects.iter().enumerate() {
@@ -88,7 +82,6 @@ fn jobs(alloc: Global, object: &Value, d: u32) -> Result<Jobs, DescFault>
     ensures value { Gives (λ jobs. jobs) result (spec.jobs_in d (view object.now)) }
     ensures count { IfOk result (λ jobs. length jobs ≤ 4096) }
     ensures in_range { IfOk result (λ jobs. IsTrue (list_all is_job_in_range jobs)) }
-    ensures built { IfOk result (λ jobs. IsTrue (list_all is_write jobs)) }
 {
     let objects = list(object, Level::OfDevice(d), FieldName::Jobs)?;
     Ok(Jobs::of(each_job(alloc, objects, d)?))
@@ -143,7 +136,6 @@ fn queue(alloc: Global, object: &Value, d: u32, budget: u32, jobs: u32) -> Resul
 fn flags(object: &Value, level: Level) -> Result<Flags, DescFault>
     ensures value { Gives (λ flags. flags) result (number_in (view object.now) level field.Flags) }
     ensures form { IfOk result (λ flags. IsTrue (is_flags flags)) }
-    ensures built { IfOk result (λ flags. flags ≡ 1) }
 {
     let bits = number(object, level, FieldName::Flags)? as u8;
     match Flags::of(bits) {
@@ -157,7 +149,6 @@ fn flags(object: &Value, level: Level) -> Result<Flags, DescFault>
 fn device(alloc: Global, object: &Value, d: u32) -> Result<DevShape, DescFault>
     ensures value { Gives (λ shape. shape) result (spec.device_in d (view object.now)) }
     ensures in_range { IfOk result ShapeInRange }
-    ensures built { IfOk result IsShapeBuilt }
 {
     let level = Level::OfDevice(d);
     let name = name(object, level)?;
@@ -188,7 +179,6 @@ fn each_device(alloc: Global, objects: &[Value]) -> Result<Vec<DevShape>, DescFa
     ensures value { Gives (λ shapes. shapes.items) result (each spec.device_in 0 (map view objects.now)) }
     ensures count { IfOk result (λ shapes. vec_len shapes ≡ length objects.now) }
     ensures in_range { IfOk result (λ shapes. All ShapeInRange shapes.items) }
-    ensures built { IfOk result (λ shapes. All IsShapeBuilt shapes.items) }
 {
     let mut shapes = Vec::new(alloc);
     for (d, object) in objects.iter().enumerate() {
@@ -207,8 +197,6 @@ pub(crate) fn devices(alloc: Global, object: &Value) -> Result<Shapes, DescFault
     ensures low { IfOk result (λ shapes. 1 ≤ length shapes) }
     ensures high { IfOk result (λ shapes. length shapes ≤ 8) }
     ensures in_range { IfOk result (All ShapeInRange) }
-    ensures count { IfOk result (λ shapes. length shapes ≡ 1) }
-    ensures built { IfOk result (All IsShapeBuilt) }
 {
     let objects = list(object, Level::Top, FieldName::Devices)?;
     Ok(Shapes::of(each_device(alloc, objects)?))

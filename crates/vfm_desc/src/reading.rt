@@ -9,11 +9,9 @@ ghost use Rattle.vfm_types.specs.declared.fault.DescFault.TheVariants.{Range};
 ghost use Rattle.vfm_types.specs.Bytes.{is_name};
 ghost use Rattle.vfm_types.specs.Ranges.{least, most, has_form, takes};
 ghost use Rattle.vfm_types.specs.declared.fault.FieldName.TheVariants as field;
-ghost use Rattle.vfm_desc.specs.Built.{is_built, is_kind_built};
 ghost use Rattle.vfm_desc.specs.Reading as spec;
 ghost use Rattle.vfm_desc.specs.Reading.{Gives};
 
-use crate::built::{is_built, is_kind_built};
 use crate::members::member_name;
 use hex::FromHexError;
 use serde_json::Value;
@@ -80,21 +78,17 @@ pub(crate) fn whole_number(value: &Value, field: Field) -> Result<u64, DescFault
     number.as_u64().ok_or(DescFault::Range(field))
 }
 
-/// The number, where the member takes it and it is built.
+/// The number, where the member takes it.
 #[tactic(auto, unfolding(crate::specs::Reading::ranged))]
 pub(crate) fn ranged(level: Level, name: FieldName, n: u64) -> Result<u64, DescFault>
     ensures value { Gives (λ n. n) result (spec.ranged level name n) }
     ensures low { IfOk result (λ n. least name ≤ n) }
     ensures high { IfOk result (λ n. n ≤ most name) }
     ensures form { IfOk result (λ n. IsTrue (has_form name n)) }
-    ensures built { IfOk result (λ n. IsTrue (is_built name n)) }
     ensures same { IfOk result (λ m. m ≡ n) }
 {
     if !name.takes(n) {
         return Err(DescFault::Range(level.field(name)));
-    }
-    if !is_built(name, n) {
-        return Err(DescFault::NotYet(level.field(name)));
     }
     Ok(n)
 }
@@ -106,7 +100,6 @@ pub(crate) fn number(object: &Value, level: Level, name: FieldName) -> Result<u6
     ensures low { IfOk result (λ n. least name ≤ n) }
     ensures high { IfOk result (λ n. n ≤ most name) }
     ensures form { IfOk result (λ n. IsTrue (has_form name n)) }
-    ensures built { IfOk result (λ n. IsTrue (is_built name n)) }
 {
     let value = member(object, level, name)?;
     let n = whole_number(value, level.field(name))?;
@@ -176,15 +169,10 @@ fn bytes_of_hex(alloc: Global, digits: &str, field: Field) -> Result<Bytes64, De
 /// A job's kind.
 #[tactic(auto, unfolding(crate::specs::Reading::kind_in))]
 pub(crate) fn kind(object: &Value, level: Level) -> Result<JobKind, DescFault>
-    ensures value { Gives (λ kind. kind) result (spec.kind_in (view object.now) level) }
-    ensures built { IfOk result (λ kind. IsTrue (is_kind_built kind)) }
+    ensures { Gives (λ kind. kind) result (spec.kind_in (view object.now) level) }
 {
     let text = text(object, level, FieldName::Kind)?;
-    let kind = kind_of(text).ok_or(DescFault::Range(level.field(FieldName::Kind)))?;
-    if !is_kind_built(kind) {
-        return Err(DescFault::NotYet(level.field(FieldName::Kind)));
-    }
-    Ok(kind)
+    kind_of(text).ok_or(DescFault::Range(level.field(FieldName::Kind)))
 }
 
 // the kind of job that the text names
@@ -210,7 +198,6 @@ pub(crate) fn list(object: &Value, level: Level, name: FieldName) -> Result<&[Va
     ensures value { Gives (λ list. map view list.now) result (spec.list_in (view object.now) level name) }
     ensures low { IfOk result (λ list. least name ≤ length list.now) }
     ensures high { IfOk result (λ list. length list.now ≤ most name) }
-    ensures built { IfOk result (λ list. IsTrue (is_built name (length list.now))) }
 {
     let value = member(object, level, name)?;
     let list = elements(value, level, name)?;

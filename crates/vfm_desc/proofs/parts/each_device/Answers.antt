@@ -3,7 +3,6 @@ use Rattle.std.proofs.lemmas.List.Elements.{All-push}
 use Rattle.std.proofs.Common.{arith}
 use Rattle.serde_json.specs.View.{view}
 use Rattle.vfm_types.specs.Valid.{ShapeInRange}
-use Rattle.vfm_desc.specs.BuiltForms.{IsShapeBuilt}
 use Rattle.vfm_desc.specs.Described.{device_in}
 use Rattle.vfm_desc.proofs.Steps.{goes_on, ends, is_done}
 use Rattle.vfm_desc.proofs.parts.each_device.Goals as goal
@@ -18,7 +17,6 @@ loop-d-preserved c = record {
   value = rw c.in-Ok.ensures.items (goes_on view device_in c.loop-d.shapes.items c.loop-d.d c.args.objects.now c.index-objects-d.result c.in_ok-next.next _ c.loop-d-test.true c.index-objects-d.is c.in_ok-next.ensures.value c.loop-d.invariant.value);
   count = omega (arith, c.in-Ok.ensures.len);
   in_range = rw c.in-Ok.ensures.items (All-push ShapeInRange c.loop-d.shapes.items c.in_ok-next.next c.loop-d.invariant.in_range c.in_ok-next.ensures.in_range);
-  built = rw c.in-Ok.ensures.items (All-push IsShapeBuilt c.loop-d.shapes.items c.in_ok-next.next c.loop-d.invariant.built c.in_ok-next.ensures.built);
 }
 
 pub returns-clause-value : goal.returns-clause-value

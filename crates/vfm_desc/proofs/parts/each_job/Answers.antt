@@ -2,7 +2,6 @@ use Rattle.std.proofs.lemmas.Result.{err_from_is_err_and}
 use Rattle.std.proofs.Common.{arith}
 use Rattle.serde_json.specs.View.{view}
 use Rattle.vfm_types.specs.Valid.{is_job_in_range}
-use Rattle.vfm_types.specs.Job.{is_write}
 use Rattle.vfm_desc.specs.Described.{job_in}
 use Rattle.vfm_desc.proofs.Steps.{goes_on, ends, is_done, list_all-push}
 use Rattle.vfm_desc.proofs.parts.each_job.Goals as goal
@@ -17,7 +16,6 @@ loop-j-preserved c = record {
   value = rw c.in-Ok.ensures.items (goes_on view (job_in c.args.d) c.loop-j.jobs.items c.loop-j.j c.args.objects.now c.index-objects-j.result c.in_ok-next.next _ c.loop-j-test.true c.index-objects-j.is c.in_ok-next.ensures.value c.loop-j.invariant.value);
   count = omega (arith, c.in-Ok.ensures.len);
   in_range = rw c.in-Ok.ensures.items (list_all-push is_job_in_range c.loop-j.jobs.items c.in_ok-next.next c.loop-j.invariant.in_range c.in_ok-next.ensures.in_range);
-  built = rw c.in-Ok.ensures.items (list_all-push is_write c.loop-j.jobs.items c.in_ok-next.next c.loop-j.invariant.built c.in_ok-next.ensures.built);
 }
 
 pub returns-clause-value : goal.returns-clause-value
