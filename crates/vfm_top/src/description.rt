@@ -3,7 +3,6 @@
 ghost use Rattle.std.specs.Prelude.{◌≡◌, IfErr, IfOk, Ok};
 ghost use Rattle.vfm_types.specs.Valid.{IsValid};
 ghost use Rattle.vfm_outside.specs.Tells.{source_tells};
-ghost use Rattle.vfm_desc.specs.BuiltForms.{IsBuilt};
 ghost use Rattle.vfm_desc.specs.Described.{description_of};
 ghost use Rattle.vfm_top.specs.Call.{read_limit, IsPrefixRead};
 ghost use Rattle.vfm_top.specs.Sources.{IsDescribed, IsRefusal, IsUndescribed};
@@ -28,7 +27,6 @@ fn status_of(fault: DescFault) -> Status
 /// The machine that the bytes describe, or the status of their fault.
 fn described(alloc: Global, bytes: &[u8]) -> Result<Desc, Status>
     ensures valid { IfOk result (λ desc. IsValid desc) }
-    ensures built { IfOk result IsBuilt }
     ensures described { IfOk result (λ desc. description_of bytes.now ≡ Ok desc) }
     ensures refused { IfErr result (IsRefusal bytes.now) }
 {
@@ -42,7 +40,6 @@ fn described(alloc: Global, bytes: &[u8]) -> Result<Desc, Status>
 /// that comes of it.
 pub fn read_description<D: Source>(alloc: Global, desc: &mut D) -> Result<Desc, Status>
     ensures described { IfOk result (IsDescribed (source_tells (D.left desc.old) (D.faults desc.old)) (source_tells (D.left desc.new) (D.faults desc.new))) }
-    ensures built { IfOk result IsBuilt }
     ensures undescribed { IfErr result (IsUndescribed (source_tells (D.left desc.old) (D.faults desc.old)) (source_tells (D.left desc.new) (D.faults desc.new))) }
     ensures read { IsPrefixRead read_limit (source_tells (D.left desc.old) (D.faults desc.old)) (source_tells (D.left desc.new) (D.faults desc.new)) }
 {
