@@ -38,19 +38,24 @@ times_are s i (p ∷ packets) =
     (λ same. let rest = times_are s i packets in omega arith) (λ other. let rest = times_are s i packets in omega arith)
     ∙ sym (sum_by-cons (count_at s i) p packets)
 
-brings_same : (D : Desc) (all : List Sent) (came packets : List Packet) → IsPermutation came packets → BringsSent D all packets
+brings_same : (D : Desc) (all : List Sent) (came packets : List Packet) → IsPermutation came packets
+    → BringsSent D all packets
     → BringsSent D all came
 brings_same D all came packets order brings =
     record {
       each = recursion_from_All (IsOfSent D all) came
-          (All-permutation (IsOfSent D all) packets came (IsPermutation-sym came packets order) (All-from_recursion (IsOfSent D all) packets brings.each));
+          (All-permutation (IsOfSent D all) packets came (IsPermutation-sym came packets order)
+          (All-from_recursion (IsOfSent D all) packets brings.each));
       once = λ s i.
-          times_are s i came ∙ sym (sum_by-IsPermutation (count_at s i) came packets order) ∙ sym (times_are s i packets) ∙ brings.once s i;
+          times_are s i came ∙ sym (sum_by-IsPermutation (count_at s i) came packets order)
+          ∙ sym (times_are s i packets) ∙ brings.once s i;
     }
 
 -- the verdict on channels none of which is refused, and which bring in any order what all channels of the source sent
-pub any_order_verdict : (D : Desc) (past : List Entry) (e : Expect) (channels : List (List ℕ)) → IsValid D → IsLegal D past
-    → is_last_begun past ≡ true → is_no_pass_open D past ≡ true → refused_channel channel_limit 0 (map (reading e) channels) ≡ None
+pub any_order_verdict : (D : Desc) (past : List Entry) (e : Expect) (channels : List (List ℕ)) → IsValid D
+    → IsLegal D past
+    → is_last_begun past ≡ true → is_no_pass_open D past ≡ true
+    → refused_channel channel_limit 0 (map (reading e) channels) ≡ None
     → IsPermutation (brought (map (reading e) channels)) (brought (lane_readings D (sent D past)))
     → verdict D e channels ≡ Loads (joint_machine D past)
 any_order_verdict D past e channels valid legal last ended unrefused order =

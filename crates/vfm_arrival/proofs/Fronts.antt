@@ -45,10 +45,16 @@ seal_short version =
 
 pub packet_short : (e : Expect) (p : Packet) → IsSoundPacket e p → length (packet_bytes p) ≤ packet_limit
 packet_short e p is =
-    omega (arith, length-packet_bytes p is.len, seal_short p.head.version, payload_high (carries p.head.kind) p.head is.head.header.shape)
+    omega (
+      arith,
+      length-packet_bytes p is.len,
+      seal_short p.head.version,
+      payload_high (carries p.head.kind) p.head is.head.header.shape,
+    )
 
 -- less than a packet is no packet
-cut_packet : (e : Expect) (p : Packet) (front rest : List ℕ) → IsSoundPacket e p → packet_bytes p ≡ front ++ rest → 0 < length rest
+cut_packet : (e : Expect) (p : Packet) (front rest : List ℕ) → IsSoundPacket e p → packet_bytes p ≡ front ++ rest
+    → 0 < length rest
     → IsPartial e front
 cut_packet e p front rest is same some =
     elim (cases_lt (length front) 40) [
@@ -69,10 +75,12 @@ cut_packet e p front rest is same some =
           })
     ]
 
-stops_at_piece : (e : Expect) (p : Packet) (front rest : List ℕ) (limit : ℕ) (over : Bool) (place : ℕ) → IsSoundPacket e p
+stops_at_piece : (e : Expect) (p : Packet) (front rest : List ℕ) (limit : ℕ) (over : Bool) (place : ℕ)
+    → IsSoundPacket e p
     → packet_bytes p ≡ front ++ rest → 0 < length rest → (reading_at limit e over place front).packets ≡ []
 stops_at_piece e p front rest limit over place is same some =
-    ap (λ (r : Reading). r.packets) (step_more limit e over place front (partial_reads e front (cut_packet e p front rest is same some)))
+    ap (λ (r : Reading). r.packets)
+    (step_more limit e over place front (partial_reads e front (cut_packet e p front rest is same some)))
 
 stops_at_end : (e : Expect) (q : Packet) (limit : ℕ) (over : Bool) (place : ℕ) → IsSoundPacket e q → q.head.kind ≡ End
     → (reading_at limit e over place (packet_bytes q)).packets ≡ []
@@ -92,7 +100,8 @@ record IsRead (e : Expect) (bytes : List ℕ) : Type 0 where
   short : length piece ≤ packet_limit
   stops : (limit : ℕ) (over : Bool) (place : ℕ) → (reading_at limit e over place piece).packets ≡ []
 
-ends_read : (e : Expect) (q : Packet) (bytes rest : List ℕ) → IsSoundPacket e q → q.head.kind ≡ End → packet_bytes q ≡ bytes ++ rest
+ends_read : (e : Expect) (q : Packet) (bytes rest : List ℕ) → IsSoundPacket e q → q.head.kind ≡ End
+    → packet_bytes q ≡ bytes ++ rest
     → IsRead e bytes
 ends_read e q bytes [] is kind same =
     let whole : packet_bytes q ≡ bytes = same ∙ append-nil bytes in
@@ -103,10 +112,12 @@ ends_read e q bytes [] is kind same =
       encoded = refl;
       short = subst (λ (l : List ℕ). length l ≤ packet_limit) whole (packet_short e q is);
       stops = λ limit over place.
-          subst (λ (l : List ℕ). (reading_at limit e over place l).packets ≡ []) whole (stops_at_end e q limit over place is kind);
+          subst (λ (l : List ℕ). (reading_at limit e over place l).packets ≡ []) whole
+          (stops_at_end e q limit over place is kind);
     }
 ends_read e q bytes (b ∷ rest) is kind same =
-    let both : length (packet_bytes q) ≡ length bytes + length (b ∷ rest) = ap length same ∙ length-append bytes (b ∷ rest) in
+    let both : length (packet_bytes q) ≡ length bytes + length (b ∷ rest) =
+    ap length same ∙ length-append bytes (b ∷ rest) in
     record {
       packets = [];
       piece = bytes;
@@ -116,7 +127,8 @@ ends_read e q bytes (b ∷ rest) is kind same =
       stops = λ limit over place. stops_at_piece e q bytes (b ∷ rest) limit over place is same (omega arith);
     }
 
-piece_read : (e : Expect) (p : Packet) (bytes rest : List ℕ) → IsSoundPacket e p → packet_bytes p ≡ bytes ++ rest → 0 < length rest
+piece_read : (e : Expect) (p : Packet) (bytes rest : List ℕ) → IsSoundPacket e p → packet_bytes p ≡ bytes ++ rest
+    → 0 < length rest
     → IsRead e bytes
 piece_read e p bytes rest is same some =
     let both : length (packet_bytes p) ≡ length bytes + length rest = ap length same ∙ length-append bytes rest in
@@ -129,18 +141,21 @@ piece_read e p bytes rest is same some =
       stops = λ limit over place. stops_at_piece e p bytes rest limit over place is same some;
     }
 
-one_more : (e : Expect) (p : Packet) (bytes after : List ℕ) → IsCarried e p → bytes ≡ packet_bytes p ++ after → IsRead e after → IsRead e bytes
+one_more : (e : Expect) (p : Packet) (bytes after : List ℕ) → IsCarried e p → bytes ≡ packet_bytes p ++ after
+    → IsRead e after → IsRead e bytes
 one_more e p bytes after is same read =
     record {
       packets = p ∷ read.packets;
       piece = read.piece;
       each = (is, read.each);
-      encoded = same ∙ ap (λ (l : List ℕ). packet_bytes p ++ l) read.encoded ∙ sym (append_assoc (packet_bytes p) (all_bytes read.packets) read.piece);
+      encoded = same ∙ ap (λ (l : List ℕ). packet_bytes p ++ l) read.encoded
+          ∙ sym (append_assoc (packet_bytes p) (all_bytes read.packets) read.piece);
       short = read.short;
       stops = read.stops;
     }
 
-front_read : (e : Expect) (q : Packet) (packets : List Packet) (bytes rest : List ℕ) → IsSoundPacket e q → q.head.kind ≡ End
+front_read : (e : Expect) (q : Packet) (packets : List Packet) (bytes rest : List ℕ) → IsSoundPacket e q
+    → q.head.kind ≡ End
     → AllByRecursion (IsCarried e) packets → all_bytes packets ++ packet_bytes q ≡ bytes ++ rest → IsRead e bytes
 front_read e q [] bytes rest is kind each same = ends_read e q bytes rest is kind same
 front_read e q (p ∷ packets) bytes rest is kind each same =
@@ -148,7 +163,8 @@ front_read e q (p ∷ packets) bytes rest is kind each same =
     sym (append_assoc (packet_bytes p) (all_bytes packets) (packet_bytes q)) ∙ same in
     elim (cases_lt (length bytes) (length (packet_bytes p))) [
       | inl cut ↦
-          let first = parts bytes rest (packet_bytes p) (all_bytes packets ++ packet_bytes q) (sym apart) (omega arith) in
+          let first = parts bytes rest (packet_bytes p) (all_bytes packets ++ packet_bytes q) (sym apart)
+          (omega arith) in
           let both : length (packet_bytes p) ≡ length bytes + length (drop (length bytes) (packet_bytes p)) =
           ap length first.0 ∙ length-append bytes (drop (length bytes) (packet_bytes p)) in
           piece_read e p bytes (drop (length bytes) (packet_bytes p)) each.0.sound first.0 (omega arith)
@@ -165,11 +181,13 @@ packets_are : (limit : ℕ) (e : Expect) (bytes : List ℕ) (read : IsRead e (ju
 packets_are limit e bytes read =
     ap (λ (l : List ℕ). (reading_at limit e (is_over limit bytes) 0 l).packets) read.encoded
     ∙ ap (λ (r : Reading). r.packets) (goes_on read.packets limit e (is_over limit bytes) 0 read.piece read.each)
-    ∙ ap (λ (l : List Packet). read.packets ++ l) (read.stops limit (is_over limit bytes) (0 + length (all_bytes read.packets)))
+    ∙ ap (λ (l : List Packet). read.packets ++ l)
+    (read.stops limit (is_over limit bytes) (0 + length (all_bytes read.packets)))
     ∙ append-nil read.packets
 
 -- what is judged of some bytes comes first
-judged_first : (limit : ℕ) (bytes rest : List ℕ) → bytes ++ rest ≡ judged limit bytes ++ (drop (limit + 1) bytes ++ rest)
+judged_first : (limit : ℕ) (bytes rest : List ℕ)
+    → bytes ++ rest ≡ judged limit bytes ++ (drop (limit + 1) bytes ++ rest)
 judged_first limit bytes rest =
     ap (λ (l : List ℕ). l ++ rest) (sym (take-append-drop (limit + 1) bytes))
     ∙ append_assoc (take (limit + 1) bytes) (drop (limit + 1) bytes) rest
@@ -178,16 +196,20 @@ judged_first limit bytes rest =
 whole_channel : (e : Expect) (bytes : List ℕ) (packets : List Packet) (is : IsSoundChannel e bytes packets)
     → all_bytes packets ++ packet_bytes is.ends.packet ≡ bytes
 whole_channel e bytes packets is =
-    ap (λ (l : List ℕ). all_bytes packets ++ l) (sym (append-nil (packet_bytes is.ends.packet)) ∙ sym is.ends.encoded) ∙ sym is.encoded
+    ap (λ (l : List ℕ). all_bytes packets ++ l) (sym (append-nil (packet_bytes is.ends.packet)) ∙ sym is.ends.encoded)
+    ∙ sym is.encoded
 
-pub front_begins : (limit : ℕ) (e : Expect) (bytes rest : List ℕ) (packets : List Packet) → IsSoundChannel e (bytes ++ rest) packets
+pub front_begins : (limit : ℕ) (e : Expect) (bytes rest : List ℕ) (packets : List Packet)
+    → IsSoundChannel e (bytes ++ rest) packets
     → BeginsWith limit e bytes (reading_within limit e bytes).packets
 front_begins limit e bytes rest packets is =
-    let read = front_read e is.ends.packet packets (judged limit bytes) (drop (limit + 1) bytes ++ rest) is.ends.sound is.ends.of_kind is.each
+    let read = front_read e is.ends.packet packets (judged limit bytes)
+    (drop (limit + 1) bytes ++ rest) is.ends.sound is.ends.of_kind is.each
     (whole_channel e (bytes ++ rest) packets is ∙ judged_first limit bytes rest) in
     as_read limit e bytes read
   where
-    as_read : (limit : ℕ) (e : Expect) (bytes : List ℕ) → IsRead e (judged limit bytes) → BeginsWith limit e bytes (reading_within limit e bytes).packets
+    as_read : (limit : ℕ) (e : Expect) (bytes : List ℕ) → IsRead e (judged limit bytes)
+        → BeginsWith limit e bytes (reading_within limit e bytes).packets
     as_read limit e bytes read =
         let same = sym (packets_are limit e bytes read) in
         record {
@@ -212,14 +234,17 @@ not_over limit e bytes packets begins few =
     ]
 
 -- where the packet that ends the channel stands behind the packets, the channel came whole
-pub front_whole : (limit : ℕ) (e : Expect) (bytes : List ℕ) (packets : List Packet) (q : Packet) → BeginsWith limit e bytes packets
+pub front_whole : (limit : ℕ) (e : Expect) (bytes : List ℕ) (packets : List Packet) (q : Packet)
+    → BeginsWith limit e bytes packets
     → length (all_bytes packets) + packet_limit ≤ limit → IsSoundPacket e q → q.head.kind ≡ End
     → drop (length (all_bytes packets)) bytes ≡ packet_bytes q → IsSoundChannel e bytes packets
 front_whole limit e bytes packets q begins few is kind behind =
     let within = not_over limit e bytes packets begins few in
-    let encoded : bytes ≡ all_bytes packets ++ begins.piece = sym (judged_all limit bytes (omega arith)) ∙ begins.encoded in
+    let encoded : bytes ≡ all_bytes packets ++ begins.piece =
+    sym (judged_all limit bytes (omega arith)) ∙ begins.encoded in
     let piece : begins.piece ≡ packet_bytes q =
-    sym (drop_at (all_bytes packets) begins.piece (length (all_bytes packets)) refl) ∙ ap (drop (length (all_bytes packets))) (sym encoded) ∙ behind in
+    sym (drop_at (all_bytes packets) begins.piece (length (all_bytes packets)) refl)
+    ∙ ap (drop (length (all_bytes packets))) (sym encoded) ∙ behind in
     record {
       rest = packet_bytes q;
       each = begins.each;

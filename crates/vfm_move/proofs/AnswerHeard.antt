@@ -20,8 +20,9 @@ use Rattle.vfm_streams.specs.Verdict.{Loads, Verdict}
 use Rattle.vfm_control.specs.declared.frame.Frame.TheVariants as frames
 use Rattle.vfm_control.specs.Frame.{IsDigest, frame_bytes}
 use Rattle.vfm_move.specs.Contact.{Line, Lines}
-use Rattle.vfm_move.specs.Carried.{HasAnswered, IsFront, own_digest, staged_bytes, verdict_frame, verdict_of}
-use Rattle.vfm_move.specs.Complete.{Delivers}
+use Rattle.vfm_move.specs.Table.{WholeGo}
+use Rattle.vfm_move.specs.Carried.{HasAnswered, HasSaidGo, IsFront, go_bytes, own_digest, staged_bytes, verdict_frame, verdict_of}
+use Rattle.vfm_move.specs.Complete.{CarryAll, Delivers}
 use Rattle.vfm_move.specs.Move.{IsHalfway, Stands}
 use Rattle.vfm_move.specs.Undisturbed.{IsCopied, IsWhollyCarried}
 use Rattle.vfm_move.proofs.Undisturbed.{verdict_is_joint}
@@ -45,13 +46,15 @@ both_bytes first second one two i =
     elim (cases_lt i (length first)) [
       | inl low ↦ subst (λ (b : ℕ). b < 256) (sym (get_or_append_left first second 0 i low)) (one i)
       | inr high ↦
-          subst (λ (b : ℕ). b < 256) (sym (get_or-append_right first second (length first) i 0 refl high)) (two (i - length first))
+          subst (λ (b : ℕ). b < 256) (sym (get_or-append_right first second (length first) i 0 refl high))
+          (two (i - length first))
     ]
 
 digest_is_bytes : (hash : List ℕ) (n : ℕ) → IsBytes (digest_bytes hash n)
 unfolding digest_bytes
 digest_is_bytes hash zero = λ i. omega arith
-digest_is_bytes hash (suc n) = both_bytes (digest_bytes hash n) (bytes_high_first 4 (slice_index hash n)) (digest_is_bytes hash n) (word_bytes 4 (slice_index hash n))
+digest_is_bytes hash (suc n) = both_bytes (digest_bytes hash n) (bytes_high_first 4 (slice_index hash n))
+    (digest_is_bytes hash n) (word_bytes 4 (slice_index hash n))
 
 hash_is_bytes : (text : List ℕ) → IsBytes (sha256 text)
 unfolding sha256
@@ -61,19 +64,23 @@ digest_of : (D : Desc) (m : Machine) → IsDigest (state_digest D m)
 digest_of D m = record { len = length-sha256 (state_text D m); bytes = hash_is_bytes (state_text D m) }
 
 -- the own digest, where everything was copied
-own_is : (made : Made) → IsCopied made → own_digest made ≡ state_digest made.desc (joint_machine made.desc (source_past made))
+own_is : (made : Made) → IsCopied made
+    → own_digest made ≡ state_digest made.desc (joint_machine made.desc (source_past made))
 own_is made copied = ap (λ (o : Option Machine). unwrap_or (option_map (state_digest made.desc) o) []) copied.joint
 
 pub own_is_digest : (made : Made) → IsCopied made → IsDigest (own_digest made)
-own_is_digest made copied = subst IsDigest (sym (own_is made copied)) (digest_of made.desc (joint_machine made.desc (source_past made)))
+own_is_digest made copied = subst IsDigest (sym (own_is made copied))
+    (digest_of made.desc (joint_machine made.desc (source_past made)))
 
 -- ---- frames have 44 bytes
 
-pub staged_long : (session : ℕ) (digest : List ℕ) → length digest ≡ 32 → length (frame_bytes (frames.Staged session digest)) ≡ 44
+pub staged_long : (session : ℕ) (digest : List ℕ) → length digest ≡ 32
+    → length (frame_bytes (frames.Staged session digest)) ≡ 44
 unfolding frame_bytes
 staged_long session digest len = omega arith
 
-pub go_long : (session : ℕ) (digest : List ℕ) → length digest ≡ 32 → length (frame_bytes (frames.Go session digest)) ≡ 44
+pub go_long : (session : ℕ) (digest : List ℕ) → length digest ≡ 32
+    → length (frame_bytes (frames.Go session digest)) ≡ 44
 unfolding frame_bytes
 go_long session digest len = omega arith
 
@@ -89,14 +96,16 @@ all_front front whole is long =
 
 -- ---- the answer
 
-pub answer_sent : (made : Made) (lines : Lines) → IsCopied made → verdict_of made lines ≡ Loads (joint_machine made.desc (source_past made))
+pub answer_sent : (made : Made) (lines : Lines) → IsCopied made
+    → verdict_of made lines ≡ Loads (joint_machine made.desc (source_past made))
     → HasAnswered made lines → lines.dest_control.sent ≡ staged_bytes made
 answer_sent made lines copied verdict answered =
     answered.answered ∙ ap (λ (v : Verdict). frame_bytes (verdict_frame made.desc v)) verdict
     ∙ ap (λ (digest : List ℕ). frame_bytes (frames.Staged made.desc.session digest)) (sym (own_is made copied))
 
 -- what a control link received of a frame: all of it once it has so many bytes or has ended
-pub frame_came : (sender receiver : Line) (bytes : List ℕ) → Delivers sender receiver → sender.sent ≡ bytes → length bytes ≡ 44
+pub frame_came : (sender receiver : Line) (bytes : List ℕ) → Delivers sender receiver → sender.sent ≡ bytes
+    → length bytes ≡ 44
     → (44 ≤ length receiver.received) ⊎ (receiver.ended ≡ true) → receiver.received ≡ bytes
 frame_came sender receiver bytes delivers sent len (inl whole) =
     all_front receiver.received bytes (subst (IsFront receiver.received) sent delivers.front) (omega arith)
@@ -104,10 +113,12 @@ frame_came sender receiver bytes delivers sent len (inr ended) = delivers.all en
 
 -- ---- as the laws have it
 
-pub copied_from : (status : Status) (made : Made) → Stands made.desc (source_past made) → IsTrue (is_last_ended made.desc (source_past made))
+pub copied_from : (status : Status) (made : Made) → Stands made.desc (source_past made)
+    → IsTrue (is_last_ended made.desc (source_past made))
     → IsHalfway status made → IsCopied made
 copied_from status made stands ended half =
-    let last = (and_parts (is_joint (source_past made) && is_last_begun (source_past made)) (is_no_pass_open made.desc (source_past made)) ended).0 in
+    let last = (and_parts (is_joint (source_past made) && is_last_begun (source_past made))
+    (is_no_pass_open made.desc (source_past made)) ended).0 in
     let joint = (and_parts (is_joint (source_past made)) (is_last_begun (source_past made)) last).0 in
     record {
       legal = stands.legal;
@@ -116,6 +127,14 @@ copied_from status made stands ended half =
           half.joint
           ∙ ap (λ (b : Bool). if b then Some (joint_machine made.desc (source_past made)) else None) joint;
     }
+
+pub go_all : (made : Made) (lines : Lines) → IsCopied made → CarryAll made.desc lines
+    → HasSaidGo WholeGo made lines.source_control.sent
+    → (44 ≤ length lines.dest_control.received) ⊎ (lines.dest_control.ended ≡ true)
+    → lines.dest_control.received ≡ go_bytes made
+go_all made lines copied carry said =
+    frame_came lines.source_control lines.dest_control (go_bytes made) carry.go said
+    (go_long made.desc.session (own_digest made) (own_is_digest made copied).len)
 
 module _ (made : Made) (lines : Lines) (is : IsWhollyCarried made lines) (answered : HasAnswered made lines) where
   pub answer_is : lines.dest_control.sent ≡ staged_bytes made

@@ -32,7 +32,8 @@ use Rattle.vfm_move.proofs.Undisturbed.{expects}
 -- ---- as it was sent
 
 -- the bytes of a whole channel
-share_begins : (D : Desc) (past : List Entry) (k : ℕ) → IsValid D → IsLegal D past → BeginsSoundly D (ended_share D past k)
+share_begins : (D : Desc) (past : List Entry) (k : ℕ) → IsValid D → IsLegal D past
+    → BeginsSoundly D (ended_share D past k)
 share_begins D past k valid legal =
     record {
       whole = ended_share D past k;
@@ -41,24 +42,40 @@ share_begins D past k valid legal =
       front = all_is_front (ended_share D past k);
     }
 
+-- it is its packets
+pub share_packets : (made : Made) (k : ℕ) → IsValid made.desc → IsLegal made.desc (source_past made)
+    → packets_in made.desc (ended_due made k) ≡ lane_packets made.desc k (sent made.desc (source_past made))
+share_packets made k valid legal =
+    ap (λ (r : Reading). r.packets)
+    (share_reads made.desc (source_past made) (expected made.desc) k valid legal (expects made.desc valid))
+
 -- what stands behind its packets is the one that ends it
 share_ends : (D : Desc) (past : List Entry) (k : ℕ) → IsValid D → IsLegal D past
     → piece_in D (ended_share D past k) ≡ packet_bytes (end_packet D)
 share_ends D past k valid legal =
-    ap (λ (r : Reading). drop (length (all_bytes r.packets)) (ended_share D past k)) (share_reads D past (expected D) k valid legal (expects D valid))
+    ap (λ (r : Reading). drop (length (all_bytes r.packets)) (ended_share D past k))
+    (share_reads D past (expected D) k valid legal (expects D valid))
     ∙ drop_at (share D past k) (packet_bytes (end_packet D)) (length (share D past k)) refl
 
+pub sent_ends : (made : Made) (k : ℕ) → IsValid made.desc → IsLegal made.desc (source_past made)
+    → piece_in made.desc (ended_due made k) ≡ packet_bytes (end_packet made.desc)
+sent_ends made k valid legal = share_ends made.desc (source_past made) k valid legal
+
 -- what a channel of the destination received is what the same channel of the source is to send
-came_share : (made : Made) (lines : Lines) → ChannelsCarry Whole made lines → CameAsSent lines → (k : ℕ) (d : Line) → k < length lines.dest
+came_share : (made : Made) (lines : Lines) → ChannelsCarry Whole made lines → CameAsSent lines → (k : ℕ) (d : Line)
+    → k < length lines.dest
     → (slice_index_or lines.dest k d).received ≡ ended_due made k
 came_share made lines carry came k d inside = by_source (slice_get lines.source k) refl (carry k)
   where
-    received_at : option_map (λ (l : Line). l.received) (slice_get lines.dest k) ≡ Some (slice_index_or lines.dest k d).received
+    received_at : option_map (λ (l : Line). l.received) (slice_get lines.dest k)
+        ≡ Some (slice_index_or lines.dest k d).received
     received_at = ap (option_map (λ (l : Line). l.received)) (slice_get-get_or lines.dest k d inside)
 
-    sent_at : option_map (λ (l : Line). l.received) (slice_get lines.dest k) ≡ option_map (λ (l : Line). l.sent) (slice_get lines.source k)
+    sent_at : option_map (λ (l : Line). l.received) (slice_get lines.dest k)
+        ≡ option_map (λ (l : Line). l.sent) (slice_get lines.source k)
     sent_at =
-        sym (slice_get-map (λ (l : Line). l.received) lines.dest k) ∙ ap (λ (bytes : List (List ℕ)). slice_get bytes k) came.channels
+        sym (slice_get-map (λ (l : Line). l.received) lines.dest k)
+        ∙ ap (λ (bytes : List (List ℕ)). slice_get bytes k) came.channels
         ∙ slice_get-map (λ (l : Line). l.sent) lines.source k
 
     by_source : (o : Option Line) → slice_get lines.source k ≡ o → IfSome o (λ line. line.sent ≡ ended_due made k)
@@ -79,18 +96,24 @@ same_packets D lines came =
 
 delivers_all : (sender receiver : Line) → receiver.received ≡ sender.sent → Delivers sender receiver
 delivers_all sender receiver same =
-    record { front = subst (λ (bytes : List ℕ). IsFront bytes sender.sent) (sym same) (all_is_front sender.sent); all = λ ended. same }
+    record {
+      front = subst (λ (bytes : List ℕ). IsFront bytes sender.sent) (sym same) (all_is_front sender.sent);
+      all = λ ended. same;
+    }
 
-pub as_sent : (made : Made) (lines : Lines) → IsValid made.desc → IsLegal made.desc (source_past made) → ChannelsCarry Whole made lines
+pub as_sent : (made : Made) (lines : Lines) → IsValid made.desc → IsLegal made.desc (source_past made)
+    → ChannelsCarry Whole made lines
     → CameAsSent lines → CarryAll made.desc lines
 as_sent made lines valid legal carry came =
     record {
       sound = λ k d inside.
-          subst (BeginsSoundly made.desc) (sym (came_share made lines carry came k d inside)) (share_begins made.desc (source_past made) k valid legal);
+          subst (BeginsSoundly made.desc) (sym (came_share made lines carry came k d inside))
+          (share_begins made.desc (source_past made) k valid legal);
       missing = [];
       among =
           subst (λ (l : List Packet). IsPermutation l (packets_sent made.desc lines))
-          (sym (append-nil (packets_received made.desc lines) ∙ same_packets made.desc lines came)) (IsPermutation-refl (packets_sent made.desc lines));
+          (sym (append-nil (packets_received made.desc lines) ∙ same_packets made.desc lines came))
+          (IsPermutation-refl (packets_sent made.desc lines));
       pieces = λ k d inside.
           inl (subst (λ (bytes : List ℕ). IsFront bytes (packet_bytes (end_packet made.desc))) (sym (ends k d inside))
           (all_is_front (packet_bytes (end_packet made.desc))));
@@ -102,7 +125,8 @@ as_sent made lines valid legal carry came =
   where
     ends : (k : ℕ) (d : Line) → k < length lines.dest → HasEnd made.desc (slice_index_or lines.dest k d)
     ends k d inside =
-        ap (piece_in made.desc) (came_share made lines carry came k d inside) ∙ share_ends made.desc (source_past made) k valid legal
+        ap (piece_in made.desc) (came_share made lines carry came k d inside)
+        ∙ share_ends made.desc (source_past made) k valid legal
 
 -- ---- unread
 
@@ -134,10 +158,12 @@ no_packets D = refl
 no_piece : (D : Desc) → piece_in D [] ≡ []
 no_piece D = ap (λ (packets : List Packet). drop (length (all_bytes packets)) []) (no_packets D)
 
-none_received : (D : Desc) (lines : List Line) → All IsUnread lines → flat_map (λ line. packets_in D line.received) lines ≡ []
+none_received : (D : Desc) (lines : List Line) → All IsUnread lines
+    → flat_map (λ line. packets_in D line.received) lines ≡ []
 none_received D [] each = refl
 none_received D (line ∷ lines) each =
-    ap (λ (bytes : List ℕ). packets_in D bytes ++ flat_map (λ l. packets_in D l.received) lines) (All-head IsUnread line lines each).received
+    ap (λ (bytes : List ℕ). packets_in D bytes ++ flat_map (λ l. packets_in D l.received) lines)
+    (All-head IsUnread line lines each).received
     ∙ ap (λ (packets : List Packet). packets ++ flat_map (λ l. packets_in D l.received) lines) (no_packets D)
     ∙ none_received D lines (All-tail IsUnread line lines each)
 
@@ -147,11 +173,13 @@ unread_carry D lines valid are =
       sound = λ k d inside. subst (BeginsSoundly D) (sym (are.channels k d inside).received) (nothing_begins D valid);
       missing = packets_sent D lines;
       among =
-          subst (λ (l : List Packet). IsPermutation (l ++ packets_sent D lines) (packets_sent D lines)) (sym (none_received D lines.dest are.channels))
+          subst (λ (l : List Packet). IsPermutation (l ++ packets_sent D lines) (packets_sent D lines))
+          (sym (none_received D lines.dest are.channels))
           (IsPermutation-refl (packets_sent D lines));
       pieces = λ k d inside.
           inl (subst (λ (bytes : List ℕ). IsFront bytes (packet_bytes (end_packet D)))
-          (sym (ap (piece_in D) (are.channels k d inside).received ∙ no_piece D)) (nothing_is_front (packet_bytes (end_packet D))));
+          (sym (ap (piece_in D) (are.channels k d inside).received ∙ no_piece D))
+          (nothing_is_front (packet_bytes (end_packet D))));
       ends = λ k d inside ended. absurd (true≢false (sym ended ∙ (are.channels k d inside).ended));
       all = λ ended. absurd (no_first (ended 0) (are.channels 0));
       answer = unread lines.dest_control lines.source_control are.answer.received are.answer.ended;
@@ -160,4 +188,5 @@ unread_carry D lines valid are =
   where
     no_first : ((d : Line) → 0 < length lines.dest → (slice_index_or lines.dest 0 d).ended ≡ true)
         → ((d : Line) → 0 < length lines.dest → IsUnread (slice_index_or lines.dest 0 d)) → ⊥
-    no_first ended unread_ = true≢false (sym (ended lines.source_control are.some) ∙ (unread_ lines.source_control are.some).ended)
+    no_first ended unread_ =
+        true≢false (sym (ended lines.source_control are.some) ∙ (unread_ lines.source_control are.some).ended)

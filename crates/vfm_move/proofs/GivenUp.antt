@@ -42,21 +42,25 @@ use Rattle.vfm_move.specs.Move.{GoesOn, HasEnded, IsDecided, IsHalfway, came_to,
 -- ---- the journal
 
 -- what an abort leaves as it was
-pub kept : (D : Desc) (before later : List Entry) (final : Machine) → GoesOn D before later final → KeepsCopies D before later
+pub kept : (D : Desc) (before later : List Entry) (final : Machine) → GoesOn D before later final
+    → KeepsCopies D before later
 kept D before later final goes =
     subst (λ (l : List Entry). KeepsCopies D before l) (sym goes.journal)
     (all_kept D before goes.more (subst (λ (l : List Entry). IsLegal D l) goes.journal goes.legal))
 
-pub passed_same : (D : Desc) (n : ℕ) (before later : List Entry) → KeepsCopies D before later → has_passed D n later ≡ has_passed D n before
+pub passed_same : (D : Desc) (n : ℕ) (before later : List Entry) → KeepsCopies D before later
+    → has_passed D n later ≡ has_passed D n before
 passed_same D n before later keeps = rw (keeps.passes, keeps.ended) refl
 
 -- an arc that is in the longer list failed before the abort
-failed_first : (before : List Entry) (d : ℕ) (to : MigState) → Contains (Abort ∷ []) (Fail d to) ⊎ Contains before (Fail d to)
+failed_first : (before : List Entry) (d : ℕ) (to : MigState)
+    → Contains (Abort ∷ []) (Fail d to) ⊎ Contains before (Fail d to)
     → Contains before (Fail d to)
 failed_first before d to (inl first) = let e = is_it Abort (Fail d to) first in absurd cc
 failed_first before d to (inr rest) = rest
 
-failed_in : (D : Desc) (before more : List Entry) (d : ℕ) (to : MigState) (entry : Entry) → IsLegal D (entry ∷ more ++ Abort ∷ before)
+failed_in : (D : Desc) (before more : List Entry) (d : ℕ) (to : MigState) (entry : Entry)
+    → IsLegal D (entry ∷ more ++ Abort ∷ before)
     → (Contains (more ++ Abort ∷ before) (Fail d to) → Contains before (Fail d to))
     → Contains (entry ∷ []) (Fail d to) ⊎ Contains (more ++ Abort ∷ before) (Fail d to) → Contains before (Fail d to)
 failed_in D before more d to entry legal later (inl first) =
@@ -70,7 +74,8 @@ failed_before D before (entry ∷ more) d to legal has =
     failed_in D before more d to entry legal (failed_before D before more d to legal.2)
     (Contains-append_cases (entry ∷ []) (more ++ Abort ∷ before) (Fail d to) has)
 
-pub fail_back : (D : Desc) (before later : List Entry) (final : Machine) (d : ℕ) (to : MigState) → GoesOn D before later final
+pub fail_back : (D : Desc) (before later : List Entry) (final : Machine) (d : ℕ) (to : MigState)
+    → GoesOn D before later final
     → Contains later (Fail d to) → Contains before (Fail d to)
 fail_back D before later final d to goes has =
     failed_before D before goes.more d to (subst (λ (l : List Entry). IsLegal D l) goes.journal goes.legal)
@@ -91,7 +96,8 @@ due_same made later final k keeps =
     ∙ ap (λ (all : List Sent). all_bytes (lane_packets made.desc k all)) keeps.sent
 
 sent_on : (channels : Channels) (made : Made) (later : List Entry) (final : Machine) (k : ℕ) (sent : List ℕ)
-    → due (gone_on made later final) k ≡ due made k → HasSent channels made k sent → HasSent channels (gone_on made later final) k sent
+    → due (gone_on made later final) k ≡ due made k → HasSent channels made k sent
+    → HasSent channels (gone_on made later final) k sent
 sent_on Whole made later final k sent same has =
     has ∙ ap (λ (bytes : List ℕ). bytes ++ packet_bytes (end_of made.desc.version made.desc.session)) (sym same)
 sent_on Front made later final k sent same (inl front) =
@@ -109,13 +115,15 @@ if_some : {X : Type 0} (o : Option X) (P Q : X → Type 0) → ((x : X) → P x 
 if_some None P Q more is = tt
 if_some (Some x) P Q more is = more x is
 
-state_on : (status : Status) (made : Made) (later : List Entry) (final : Machine) (lines : Lines) → BringsState status made lines
+state_on : (status : Status) (made : Made) (later : List Entry) (final : Machine) (lines : Lines)
+    → BringsState status made lines
     → BringsState status (gone_on made later final) lines
 state_on Moved made later final lines is = is
 state_on Differs made later final lines is = is
 state_on status made later final lines is = tt
 
-heard_on : (heard : Heard) (made : Made) (later : List Entry) (final : Machine) (lines : Lines) → HasHeard heard made lines
+heard_on : (heard : Heard) (made : Made) (later : List Entry) (final : Machine) (lines : Lines)
+    → HasHeard heard made lines
     → HasHeard heard (gone_on made later final) lines
 heard_on DigestAndGo made later final lines is = is
 heard_on Digest made later final lines is = is
@@ -131,14 +139,16 @@ answered_on : (made : Made) (later : List Entry) (final : Machine) (lines : Line
     → HasAnswered (gone_on made later final) lines
 answered_on made later final lines is = record { read_out = is.read_out; answered = is.answered }
 
-answer_on : (answering : Answering) (made : Made) (later : List Entry) (final : Machine) (lines : Lines) → AnswersAt answering made lines
+answer_on : (answering : Answering) (made : Made) (later : List Entry) (final : Machine) (lines : Lines)
+    → AnswersAt answering made lines
     → AnswersAt answering (gone_on made later final) lines
 answer_on HasAnswer made later final lines is = answered_on made later final lines is
 answer_on HasAnswerIfUnheard made later final lines is = λ rose. answered_on made later final lines (is rose)
 answer_on MaybeNot made later final lines is = tt
 
 carried_on : (status : Status) (made : Made) (later : List Entry) (final : Machine) (lines : Lines)
-    → KeepsCopies made.desc (source_past made) later → IsCarried status made lines → IsCarried status (gone_on made later final) lines
+    → KeepsCopies made.desc (source_past made) later → IsCarried status made lines
+    → IsCarried status (gone_on made later final) lines
 carried_on status made later final lines keeps is =
     record {
       channels = λ k.
@@ -184,7 +194,8 @@ cause_on (InDoubt (NoGoCame heard)) at attempt made later final ends goes cause 
 cause_on status at attempt made later final ends goes cause = cause
 
 brings_back : (brought at : Status) (attempt : Attempt) (made : Made) (later : List Entry) (final : Machine) (ends : ToldEnds)
-    → GoesOn made.desc (source_past made) later final → Brings brought attempt (came_to at (gone_on made later final) ends)
+    → GoesOn made.desc (source_past made) later final
+    → Brings brought attempt (came_to at (gone_on made later final) ends)
     → Brings brought attempt (came_to at made ends)
 brings_back (Aborted pass) at attempt made later final ends goes brings =
     due_abort attempt pass (gone_on made later final) made refl
@@ -222,7 +233,8 @@ explained_on status attempt made later final ends goes is =
 
 -- ---- completeness
 
-to_move_back : (attempt : Attempt) (made : Made) (later : List Entry) (final : Machine) → KeepsCopies made.desc (source_past made) later
+to_move_back : (attempt : Attempt) (made : Made) (later : List Entry) (final : Machine)
+    → KeepsCopies made.desc (source_past made) later
     → IsToMove attempt (gone_on made later final) → IsToMove attempt made
 to_move_back attempt made later final keeps (inl never) = inl never
 to_move_back attempt made later final keeps (inr fewer) =
@@ -251,7 +263,8 @@ parts_went_on Moved joint on = absurd cc
 parts_went_on (InDoubt doubt) joint on = absurd cc
 parts_went_on status joint on = refl
 
-pub parts_on : (status : Status) (made : Made) (later : List Entry) (final : Machine) → owner_at status ≡ WentOn → IsHalfway status made
+pub parts_on : (status : Status) (made : Made) (later : List Entry) (final : Machine) → owner_at status ≡ WentOn
+    → IsHalfway status made
     → KeepsCopies made.desc (source_past made) later → HasParts status (gone_on made later final)
 parts_on status made later final on half keeps =
     let joint = ap is_some half.joint ∙ joint_same made.desc (source_past made) ∙ sym (ap is_joint (reverse-reverse later) ∙ keeps.joint) in
@@ -264,7 +277,8 @@ joint_state : (D : Desc) (before later : List Entry) → IsValid D → IsLegal D
     → IfSome (joint_in D before) (λ m. plain D (delivers (before_joint (reverse later))) ≡ Some m)
 joint_state D before later valid legal keeps = by_cases (is_joint before) refl
   where
-    by_cases : (b : Bool) → is_joint before ≡ b → IfSome (joint_in D before) (λ m. plain D (delivers (before_joint (reverse later))) ≡ Some m)
+    by_cases : (b : Bool) → is_joint before ≡ b
+        → IfSome (joint_in D before) (λ m. plain D (delivers (before_joint (reverse later))) ≡ Some m)
     by_cases true is = rw is (joint_exists D valid later legal (keeps.joint ∙ is) ∙ ap Some keeps.machine)
     by_cases false is = rw is tt
 
@@ -278,8 +292,10 @@ joint_stands made valid legal =
     (joint_state made.desc (source_past made) (source_past made) valid legal
     (record { sent = refl; joint = refl; machine = refl; passes = refl; last = refl; ended = refl }))
 
-pub safe_on : (status : Status) (made : Made) (later : List Entry) (final : Machine) → IsValid made.desc → owner_at status ≡ WentOn
-    → IsHalfway status made → GoesOn made.desc (source_past made) later final → IsSafeRun status (gone_on made later final)
+pub safe_on : (status : Status) (made : Made) (later : List Entry) (final : Machine) → IsValid made.desc
+    → owner_at status ≡ WentOn
+    → IsHalfway status made → GoesOn made.desc (source_past made) later final
+    → IsSafeRun status (gone_on made later final)
 safe_on status made later final valid on half goes =
     record {
       run = record {

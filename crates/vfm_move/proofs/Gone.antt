@@ -10,9 +10,7 @@ use Rattle.vfm_types.specs.Phases.{is_failed}
 use Rattle.vfm_types.specs.Requests.{plain}
 use Rattle.vfm_types.specs.Valid.{IsValid}
 use Rattle.vfm_outside.specs.Links.{ToldEnds}
-use Rattle.vfm_control.specs.declared.frame.Frame.TheVariants as frames
-use Rattle.vfm_control.specs.Frame.{IsFrame, frame_at}
-use Rattle.vfm_control.proofs.Encoded.{again, length-frame_bytes}
+use Rattle.vfm_control.specs.Frame.{frame_at}
 use Rattle.vfm_handshake.specs.declared.fault.GoFault.{GoFault}
 use Rattle.vfm_handshake.specs.declared.fault.GoFault.TheVariants as going
 use Rattle.vfm_handshake.specs.Control.{IsNoGo, TakenBy}
@@ -24,18 +22,19 @@ use Rattle.vfm_laws.proofs.Conditions.{on_unfailed, resume_on}
 use Rattle.vfm_status.specs.declared.status.Doubt.TheVariants.{NoGo as NoGoCame, Other}
 use Rattle.vfm_status.specs.declared.status.Status.{Status}
 use Rattle.vfm_status.specs.declared.status.Status.TheVariants.{InDoubt, Moved}
-use Rattle.vfm_move.specs.Contact.{Lines, Linked, told_lines}
+use Rattle.vfm_move.specs.Contact.{Lines, Linked, WhereTold, told_lines}
 use Rattle.vfm_move.specs.Table.{HasParts, WholeGo}
 use Rattle.vfm_move.specs.Headline.{IsSafeRun}
-use Rattle.vfm_move.specs.Carried.{own_digest}
-use Rattle.vfm_move.specs.Causes.{Attempt, Brings, Received}
-use Rattle.vfm_move.specs.Complete.{CarryAll}
+use Rattle.vfm_move.specs.Carried.{HasSaidGo, own_digest}
+use Rattle.vfm_move.specs.Causes.{Attempt, Brings, HasCause, Received}
 use Rattle.vfm_move.specs.Move.{HasEnded, IsConfirmed, IsDecided, IsHalfway, came_to}
 use Rattle.vfm_move.specs.Answered.{HasHeardGo, HeardBytes, GoesOver, taken_over}
-use Rattle.vfm_move.proofs.Brought.{HeardGo, brought_by, dest_line, ended_line, gone_status, received_line}
-use Rattle.vfm_move.proofs.Confirmed.{go_brings}
+use Rattle.vfm_move.proofs.AnswerHeard.{copied_from}
+use Rattle.vfm_move.proofs.NotRefused.{no_go_complete, other_go_complete}
+use Rattle.vfm_move.proofs.Brought.{HeardGo, brought_by, dest_line, gone_status, received_line}
+use Rattle.vfm_move.proofs.Confirmed.{doubted, go_brings}
 use Rattle.vfm_move.proofs.GivenUp.{joint_same, joint_stands}
-use Rattle.vfm_move.proofs.HeardOnce.{heard_all, heard_go, one_taking, taken_once}
+use Rattle.vfm_move.proofs.HeardOnce.{heard_go, one_taking}
 
 -- what the destination heard, where the links tell
 go_line : (ends : ToldEnds) (lines : Lines) (bytes : List ℕ) → Linked ends ≡ Linked (told_lines lines)
@@ -58,102 +57,51 @@ takes_brings brought at attempt made ends bytes taken is heard takes brings =
     (subst (λ (xs : List ℕ). TakenBy made.desc.session (own_digest made) xs taken) same takes) came.4 in
     (came.0, ap gone_status once ∙ came.3, subst (λ (r : Result ⊤ GoFault). HeardGo made came.0 r) (sym once) came.4)
 
--- ---- where the links carry all
-
-own_go_frame : (made : Made) → IsFrame (frames.Staged made.desc.session (own_digest made))
-    → IsFrame (frames.Go made.desc.session (own_digest made))
-own_go_frame made frame = record { session = frame.session; body = frame.body }
-
--- the destination takes over
-own_taken : (attempt : Attempt) (made : Made) (ends : ToldEnds) (lines : Lines) (bytes : List ℕ) (taken : Result ⊤ GoFault)
-    → IsConfirmed WholeGo attempt made ends → HeardBytes ends.dest_control bytes
-    → TakenBy made.desc.session (own_digest made) bytes taken
-    → Linked ends ≡ Linked (told_lines lines) → CarryAll made.desc lines → Ok tt ≡ taken
-own_taken attempt made ends lines bytes taken is heard takes told carry =
-    let frame = own_go_frame made is.frame in
-    let same = go_line ends lines bytes told heard in
-    let said = (is.carried lines told).said in
-    let all = heard_all lines.source_control lines.dest_control carry.go
-    (ap length said ∙ length-frame_bytes (frames.Go made.desc.session (own_digest made)) frame)
-    (subst (λ (xs : List ℕ). length xs ≤ 44) (sym same) heard.most)
-    (λ few. ended_line ends.dest_control lines.dest_control (dest_line ends lines told)
-    (heard.cut (subst (λ (xs : List ℕ). length xs < 44) same few))) in
-    let found : frame_at made.desc.session bytes ≡ Some (frames.Go made.desc.session (own_digest made)) =
-    ap (frame_at made.desc.session) (sym same ∙ all ∙ said) ∙ again (frames.Go made.desc.session (own_digest made)) frame in
-    taken_once made.desc.session (own_digest made) bytes (Ok tt) taken found takes
-
 -- ---- in doubt
 
+-- Go was said, where the links tell
+whole_go : (attempt : Attempt) (made : Made) (ends : ToldEnds) → IsConfirmed WholeGo attempt made ends
+    → WhereTold (Linked ends) (λ lines. HasSaidGo WholeGo made lines.source_control.sent)
+whole_go attempt made ends is lines told = (is.carried lines told).said
+
 -- the destination heard no Go
-pub no_go_heard : (attempt : Attempt) (made : Made) (ends : ToldEnds) (came : List ℕ)
-    → IsConfirmed WholeGo attempt made ends
-    → IsHalfway (InDoubt (NoGoCame came)) made → HasHeardGo made ends (Err (going.NoGo came))
-    → IsDecided attempt (InDoubt (NoGoCame came)) made ends
-no_go_heard attempt made ends came is half has =
-    let heard = has.heard in
-    let takes = has.takes in
-    record {
-      stands = is.stands;
-      halfway = half;
-      copied = λ neither. is.copied;
-      explained = record {
-        cause = record {
-          other = subst (λ (xs : List ℕ). IsNoGo (frame_at made.desc.session xs)) (sym takes.0) takes.1;
-          most = subst (λ (xs : List ℕ). length xs ≤ 44) (sym takes.0) heard.most;
-          cut = λ few. heard.cut (subst (λ (xs : List ℕ). length xs < 44) takes.0 few);
-          came = subst (λ (xs : List ℕ). Received ends.dest_control xs) (sym takes.0) heard.came;
-        };
-        exact = λ brought brings. inl (takes_brings brought (InDoubt (NoGoCame came)) attempt made ends has.bytes (Err (going.NoGo came)) is heard
-            takes brings).1;
-      };
-      carried = λ lines told.
-          let carried = is.carried lines told in
-          record {
-            channels = carried.channels;
-            state = tt;
-            hands = record { heard = carried.heard; go = carried.said; answer = carried.answered };
-          };
-      complete = λ moves never quiet carry.
-          let same = own_taken attempt made ends carry.told.lines has.bytes (Err (going.NoGo came)) is heard takes carry.told.told carry.carry in
-          absurd cc;
-    }
+pub no_go_heard : (attempt : Attempt) (made : Made) (ends : ToldEnds) (came : List ℕ) → IsValid made.desc
+    → IsConfirmed WholeGo attempt made ends → IsHalfway (InDoubt (NoGoCame came)) made
+    → HasHeardGo made ends (Err (going.NoGo came)) → IsDecided attempt (InDoubt (NoGoCame came)) made ends
+no_go_heard attempt made ends came valid is half has =
+    let same = sym has.takes.0 in
+    let cause : HasCause (InDoubt (NoGoCame came)) attempt (came_to (InDoubt (NoGoCame came)) made ends) = record {
+      other = subst (λ (xs : List ℕ). IsNoGo (frame_at made.desc.session xs)) same has.takes.1;
+      most = subst (λ (xs : List ℕ). length xs ≤ 44) same has.heard.most;
+      cut = λ few. has.heard.cut (subst (λ (xs : List ℕ). length xs < 44) has.takes.0 few);
+      came = subst (λ (xs : List ℕ). Received ends.dest_control xs) same has.heard.came;
+    } in
+    doubted (NoGoCame came) WholeGo attempt made ends refl is half cause
+    (λ brought brings.
+    (takes_brings brought (InDoubt (NoGoCame came)) attempt made ends has.bytes (Err (going.NoGo came)) is has.heard has.takes brings).1)
+    (no_go_complete attempt made ends came valid (copied_from (InDoubt (NoGoCame came)) made is.stands is.copied half)
+    (whole_go attempt made ends is) cause)
 
 -- the destination heard Go for another state
 pub other_go_heard : (attempt : Attempt) (made : Made) (ends : ToldEnds) (ours theirs : List ℕ)
-    → IsConfirmed WholeGo attempt made ends
-    → IsHalfway (InDoubt (Other ours theirs)) made → HasHeardGo made ends (Err (going.Other ours theirs))
-    → IsDecided attempt (InDoubt (Other ours theirs)) made ends
+    → IsConfirmed WholeGo attempt made ends → IsHalfway (InDoubt (Other ours theirs)) made
+    → HasHeardGo made ends (Err (going.Other ours theirs)) → IsDecided attempt (InDoubt (Other ours theirs)) made ends
 other_go_heard attempt made ends ours theirs is half has =
-    let heard = has.heard in
-    let takes = has.takes in
-    let frame = heard_go made.desc.session theirs has.bytes heard.fits takes.2 in
-    record {
-      stands = is.stands;
-      halfway = half;
-      copied = λ neither. is.copied;
-      explained = record {
-        cause = (
-          record {
-            own = takes.0;
-            digest = frame.0.body;
-            other = subst (λ (own : List ℕ). theirs ≢ own) (sym takes.0) takes.1;
-          },
-          subst (λ (xs : List ℕ). Received ends.dest_control xs) frame.1 heard.came,
-        );
-        exact = λ brought brings. inl (takes_brings brought (InDoubt (Other ours theirs)) attempt made ends has.bytes
-            (Err (going.Other ours theirs)) is heard takes brings).1;
-      };
-      carried = λ lines told.
-          let carried = is.carried lines told in
-          record {
-            channels = carried.channels;
-            state = tt;
-            hands = record { heard = carried.heard; go = carried.said; answer = carried.answered };
-          };
-      complete = λ moves never quiet carry.
-          let same = own_taken attempt made ends carry.told.lines has.bytes (Err (going.Other ours theirs)) is heard takes carry.told.told carry.carry in
-          absurd cc;
-    }
+    let frame = heard_go made.desc.session theirs has.bytes has.heard.fits has.takes.2 in
+    let cause : HasCause (InDoubt (Other ours theirs)) attempt (came_to (InDoubt (Other ours theirs)) made ends) = (
+      record {
+        own = has.takes.0;
+        digest = frame.0.body;
+        other = subst (λ (own : List ℕ). theirs ≢ own) (sym has.takes.0) has.takes.1;
+      },
+      subst (λ (xs : List ℕ). Received ends.dest_control xs) frame.1 has.heard.came,
+    ) in
+    doubted (Other ours theirs) WholeGo attempt made ends refl is half cause
+    (λ brought brings.
+    (takes_brings brought (InDoubt (Other ours theirs)) attempt made ends has.bytes (Err (going.Other ours theirs)) is has.heard has.takes
+    brings).1)
+    (other_go_complete attempt made ends ours theirs (copied_from (InDoubt (Other ours theirs)) made is.stands is.copied half)
+    (whole_go attempt made ends is) cause)
 
 -- ---- moved
 

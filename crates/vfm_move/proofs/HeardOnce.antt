@@ -1,8 +1,6 @@
 -- To the bytes that were heard there is one answer, so what brings a status by what was heard is what was answered.
-use Rattle.std.proofs.Common.{◌≡◌, ◌≢◌, ◌⊎◌, ℕ, ◌<◌, ◌≤◌, true, List, ◌++◌, length, Option, Some, Result, Ok, Err, refl, sym, ap, ◌∙◌, subst, inl, inr, arith, append-nil, length-append}
+use Rattle.std.proofs.Common.{◌≡◌, ◌≢◌, ℕ, List, Option, Some, Result, Ok, Err, refl, sym, ap, ◌∙◌, subst}
 use Rattle.std.specs.Prelude.{⊤}
-use Rattle.std.proofs.Math.Nat.{eq-or-lt_of_le}
-use Rattle.std.proofs.lemmas.List.{nil_from_length}
 use Rattle.vfm_types.specs.declared.fault.Refusal.{Refusal}
 use Rattle.vfm_base.specs.Words.{IsBytes}
 use Rattle.vfm_control.specs.declared.frame.Frame.{Frame}
@@ -16,9 +14,8 @@ use Rattle.vfm_handshake.specs.declared.fault.SettleFault.{SettleFault}
 use Rattle.vfm_handshake.specs.declared.fault.SettleFault.TheVariants as settling
 use Rattle.vfm_handshake.specs.Control.{IsNoAnswer, IsNoGo, SettledBy, TakenBy}
 use Rattle.vfm_plain.specs.Report.{Made}
-use Rattle.vfm_move.specs.Contact.{Line, Lines}
+use Rattle.vfm_move.specs.Contact.{Lines}
 use Rattle.vfm_move.specs.Carried.{own_digest, staged_bytes}
-use Rattle.vfm_move.specs.Complete.{Delivers}
 use Rattle.vfm_move.proofs.Brought.{HeardAnswer, HeardGo}
 
 -- ---- one answer
@@ -192,23 +189,3 @@ pub heard_go : (session : ℕ) (digest bytes : List ℕ) → IsBytes bytes
     → IsFrame (frames.Go session digest) × (bytes ≡ frame_bytes (frames.Go session digest))
 heard_go session digest bytes fits found =
     let was = was_encoded (frames.Go session digest) session bytes fits found in (was.frame, was.encoded)
-
--- ---- what an undisturbed link brings
-
--- where a link brings what was sent, and a frame was, all of it was heard
-pub heard_all : (sender receiver : Line) → Delivers sender receiver → length sender.sent ≡ 44
-    → length receiver.received ≤ 44
-    → (length receiver.received < 44 → receiver.ended ≡ true) → receiver.received ≡ sender.sent
-heard_all sender receiver delivers len most cut = by_length (eq-or-lt_of_le most)
-  where
-    whole : length receiver.received ≡ 44 → receiver.received ≡ sender.sent
-    whole all =
-        let is = delivers.front.is in
-        let none : length delivers.front.rest ≡ 0 =
-        omega (arith, ap length is, length-append receiver.received delivers.front.rest, all, len) in
-        sym (append-nil receiver.received)
-        ∙ sym (ap (λ (xs : List ℕ). receiver.received ++ xs) (nil_from_length delivers.front.rest none)) ∙ sym is
-
-    by_length : (length receiver.received ≡ 44) ⊎ (length receiver.received < 44) → receiver.received ≡ sender.sent
-    by_length (inl all) = whole all
-    by_length (inr few) = delivers.all (cut few)

@@ -6,11 +6,11 @@ pub mod HeardOnce
 pub mod Failing
 pub mod Unanswered
 pub mod Confirmed
+pub mod Undisturbed
+pub mod AnswerHeard
+pub mod NotRefused
 pub mod Answered
 pub mod Gone
 pub mod GoSaid
 pub mod Ended
-pub mod Undisturbed
-pub mod AnswerHeard
-pub mod NotRefused
 pub mod Carrying

@@ -29,7 +29,8 @@ use Rattle.vfm_move.proofs.Failing.{described_arcs}
 -- ---- links that heard less than a frame
 
 -- a link that heard less than a frame and didn't end brings nothing that was heard
-pub unheard_line : (link : Told) (line : Line) → link ≡ told_line line → IsUnheard link → (length line.received < 44 → line.ended ≡ true) → ⊥
+pub unheard_line : (link : Told) (line : Line) → link ≡ told_line line → IsUnheard link
+    → (length line.received < 44 → line.ended ≡ true) → ⊥
 unheard_line link line is unheard cut =
     true≢false (sym (cut (subst (λ (t : Told). IfSome t.received (λ xs. length xs < 44)) is unheard.received))
     ∙ subst (λ (t : Told). t.ended ≡ false) is unheard.ended)
@@ -39,9 +40,11 @@ unheard_line link line is unheard cut =
 -- an abort that is due, or an arc that failed
 data IsHindered (brought : Status) (attempt : Attempt) (made : Made) : Type 0 where
   by_abort : (pass : ℕ) → Aborted pass ≡ brought → IsAbortDue attempt pass made → IsHindered brought attempt made
-  by_arc : (d : ℕ) (to : MigState) → ArcFailed d to ≡ brought → Contains (source_past made) (Fail d to) → IsHindered brought attempt made
+  by_arc : (d : ℕ) (to : MigState) → ArcFailed d to ≡ brought → Contains (source_past made) (Fail d to)
+      → IsHindered brought attempt made
 
-hindered : (brought : Status) (attempt : Attempt) (made : Made) (ends : ToldEnds) → AreUnheard ends → IsBrought brought attempt made ends
+hindered : (brought : Status) (attempt : Attempt) (made : Made) (ends : ToldEnds) → AreUnheard ends
+    → IsBrought brought attempt made ends
     → IsHindered brought attempt made
 hindered brought attempt made ends unheard (due pass is abort) = by_abort pass is abort
 hindered brought attempt made ends unheard (arc d to is has) = by_arc d to is has
@@ -50,7 +53,8 @@ hindered brought attempt made ends unheard (answer lines result told is heard) =
 hindered brought attempt made ends unheard (go lines result told is heard) =
     absurd (unheard_line ends.dest_control lines.dest_control (dest_line ends lines told) unheard.dest (go_cut made lines result heard))
 
-hinders : (brought at : Status) (attempt : Attempt) (made : Made) (ends : ToldEnds) → AreUnheard ends → Brings brought attempt (came_to at made ends)
+hinders : (brought at : Status) (attempt : Attempt) (made : Made) (ends : ToldEnds) → AreUnheard ends
+    → Brings brought attempt (came_to at made ends)
     → IsHindered brought attempt made
 hinders brought at attempt made ends unheard brings = hindered brought attempt made ends unheard (brought_by brought at attempt made ends brings)
 
@@ -86,17 +90,20 @@ dest_count ends none = omega (arith, none)
 
 -- ---- where nothing is due but what came
 
-yields_pass : (brought : Status) (k : ℕ) (attempt : Attempt) (made : Made) → NoArcFailed made → IsHindered brought attempt made
+yields_pass : (brought : Status) (k : ℕ) (attempt : Attempt) (made : Made) → NoArcFailed made
+    → IsHindered brought attempt made
     → (LinkFault (Source k) ≡ brought) ⊎ YieldsTo brought (LinkFault (Source k))
 yields_pass brought k attempt made none (by_abort pass is abort) = inr (subst (λ (s : Status). YieldsTo s (LinkFault (Source k))) is tt)
 yields_pass brought k attempt made none (by_arc d to is has) = absurd (none d to has)
 
-nothing_due : (brought came : Status) (attempt : Attempt) (made : Made) → IsUnhindered attempt made → IsHindered brought attempt made
+nothing_due : (brought came : Status) (attempt : Attempt) (made : Made) → IsUnhindered attempt made
+    → IsHindered brought attempt made
     → (came ≡ brought) ⊎ YieldsTo brought came
 nothing_due brought came attempt made un (by_abort pass is abort) = absurd (un.no_abort_due pass abort)
 nothing_due brought came attempt made un (by_arc d to is has) = absurd (un.no_arc_failed d to has)
 
-same_pass : (brought : Status) (pass : ℕ) (attempt : Attempt) (made : Made) → NoArcFailed made → IsAbortDue attempt pass made
+same_pass : (brought : Status) (pass : ℕ) (attempt : Attempt) (made : Made) → NoArcFailed made
+    → IsAbortDue attempt pass made
     → IsHindered brought attempt made → (Aborted pass ≡ brought) ⊎ YieldsTo brought (Aborted pass)
 same_pass brought pass attempt made none abort (by_abort other is also) = inl (ap Aborted (sym abort.asked ∙ also.asked) ∙ is)
 same_pass brought pass attempt made none abort (by_arc d to is has) = absurd (none d to has)
@@ -123,7 +130,8 @@ still_due attempt pass made abort (inr fewer) =
 
 -- an arc failed
 pub arc_failed : (attempt : Attempt) (made : Made) (ends : ToldEnds) (d : ℕ) (to : MigState) → IsValid made.desc
-    → IsUnanswered (ArcFailed d to) made ends → Contains (source_past made) (Fail d to) → ((pass : ℕ) → IsAbortDue attempt pass made → ⊥)
+    → IsUnanswered (ArcFailed d to) made ends → Contains (source_past made) (Fail d to)
+    → ((pass : ℕ) → IsAbortDue attempt pass made → ⊥)
     → IsDecided attempt (ArcFailed d to) made ends
 arc_failed attempt made ends d to valid un failed none =
     record {
@@ -146,7 +154,8 @@ arc_failed attempt made ends d to valid un failed none =
     }
 
 -- a channel of the source failed
-pub source_failed : (attempt : Attempt) (made : Made) (ends : ToldEnds) (k : ℕ) → IsUnanswered (LinkFault (Source k)) made ends
+pub source_failed : (attempt : Attempt) (made : Made) (ends : ToldEnds) (k : ℕ)
+    → IsUnanswered (LinkFault (Source k)) made ends
     → NoArcFailed made → FailedOut ends.source k → IsDecided attempt (LinkFault (Source k)) made ends
 source_failed attempt made ends k un none failed =
     record {
@@ -168,7 +177,8 @@ source_failed attempt made ends k un none failed =
     }
 
 -- a channel of the destination failed
-pub dest_failed : (attempt : Attempt) (made : Made) (ends : ToldEnds) (k : ℕ) → IsUnanswered (LinkFault (Destination k)) made ends
+pub dest_failed : (attempt : Attempt) (made : Made) (ends : ToldEnds) (k : ℕ)
+    → IsUnanswered (LinkFault (Destination k)) made ends
     → IsUnhindered attempt made → FailedIn ends.dest k → IsDecided attempt (LinkFault (Destination k)) made ends
 dest_failed attempt made ends k un none failed =
     record {
@@ -220,7 +230,8 @@ answer_failed attempt made ends un none failed unheard =
 
 -- the answer wasn't heard, since the source's control link failed
 pub answer_unheard : (attempt : Attempt) (made : Made) (ends : ToldEnds) → IsUnanswered (LinkFault Control) made ends
-    → IsUnhindered attempt made → Rose 0 ends.source_control.failed_in → WhereTold (Linked ends) (λ lines. HasAnswered made lines)
+    → IsUnhindered attempt made → Rose 0 ends.source_control.failed_in
+    → WhereTold (Linked ends) (λ lines. HasAnswered made lines)
     → IsDecided attempt (LinkFault Control) made ends
 answer_unheard attempt made ends un none failed answered =
     record {
@@ -263,7 +274,8 @@ pass_ended attempt made ends pass un none abort =
     }
 
 -- memory was wanting
-pub memory_wanting : (attempt : Attempt) (made : Made) (ends : ToldEnds) → IsUnanswered NoMemory made ends → IsDecided attempt NoMemory made ends
+pub memory_wanting : (attempt : Attempt) (made : Made) (ends : ToldEnds) → IsUnanswered NoMemory made ends
+    → IsDecided attempt NoMemory made ends
 memory_wanting attempt made ends un =
     record {
       stands = un.stands;

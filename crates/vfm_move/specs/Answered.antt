@@ -11,8 +11,6 @@ use Rattle.vfm_types.specs.Requests.{plain}
 use Rattle.vfm_types.specs.Valid.{IsValid}
 use Rattle.vfm_outside.specs.Links.{Told, ToldEnds}
 use Rattle.vfm_outside.specs.Told.{TellsNone, with_appended}
-use Rattle.vfm_control.specs.declared.frame.Frame.TheVariants as frames
-use Rattle.vfm_control.specs.Frame.{IsFrame}
 use Rattle.vfm_handshake.specs.declared.fault.GoFault.{GoFault}
 use Rattle.vfm_handshake.specs.declared.fault.SettleFault.{SettleFault}
 use Rattle.vfm_handshake.specs.Control.{SettledBy, TakenBy}
@@ -26,7 +24,6 @@ use Rattle.vfm_move.specs.Contact.{Contact, Linked, Lines, WhereTold}
 use Rattle.vfm_move.specs.Table.{Whole}
 use Rattle.vfm_move.specs.Carried.{ChannelsCarry, HasAnswered, own_digest, verdict_of}
 use Rattle.vfm_move.specs.Causes.{Attempt, Received, Story}
-use Rattle.vfm_move.specs.Complete.{CarryAll}
 use Rattle.vfm_move.specs.Move.{IsHalfway, IsUnheard, IsUnhindered, Stands, gone_on}
 
 -- ---- what is heard where a frame is waited for
@@ -65,7 +62,6 @@ pub record IsAnswered (status : Status) (attempt : Attempt) (made : Made) (ends 
   pub halfway : IsHalfway status made
   pub copied : IsTrue (is_last_ended made.desc (source_past made))
   pub unhindered : IsUnhindered attempt made
-  pub frame : IsFrame (frames.Staged made.desc.session (own_digest made))
   pub channels : length ends.source ≡ made.desc.channels
   pub unsaid : TellsNone ends.source_control.sent
   pub unheard : IsUnheard ends.dest_control
@@ -77,10 +73,6 @@ BroughtJoint made lines = IsSomeAnd made.joint (λ m. verdict_of made lines ≡ 
 
 abbrev pub BroughtLoaded : Made → Lines → Type 0
 BroughtLoaded made lines = IsSomeAnd made.loaded (λ m. verdict_of made lines ≡ Loads m)
-
--- Where the links carry all that is sent, the channels brought the machine at the joint stop.
-abbrev pub BringsJoint : Made → ToldEnds → Type 0
-BringsJoint made ends = WhereTold (Linked ends) (λ lines. CarryAll made.desc lines → BroughtJoint made lines)
 
 -- More was said and heard of Go: the source's control link has sent these bytes besides those from before, and the
 -- destination's has received some besides; all else that the links carried is as before.

@@ -8,3 +8,5 @@ pub mod Move
 pub mod Answered
 pub mod Undisturbed
 pub mod Worked
+pub mod WorkedEnds
+pub mod WorkedLinks

@@ -1,5 +1,5 @@
--- A source that copied everything, links that carried it all, or nothing yet, and what is known once the destination has
--- read it out and answered.
+-- A source that copied everything, links that carried it all, or nothing yet, and what is known once the destination
+-- has read it out and answered.
 use Rattle.std.specs.Prelude.{◌≡◌, ◌<◌, false, Some, IsTrue, All, [], length, map}
 use Rattle.vfm_types.specs.Deliveries.{joint_machine}
 use Rattle.vfm_types.specs.Valid.{IsValid}

@@ -23,7 +23,7 @@ ghost use Rattle.vfm_move.specs.Table.{GoSent, NoGo, WholeGo};
 ghost use Rattle.vfm_move.specs.Carried.{HasSaidGo, verdict_of};
 ghost use Rattle.vfm_move.specs.Causes.{Attempt, IsExplained, Received, StatesDiffer};
 ghost use Rattle.vfm_move.specs.Move.{GoesOn, HasEnded, IsConfirmed, IsDecided, IsHalfway, IsMoveOf, WiresDid, asked_by, came_to};
-ghost use Rattle.vfm_move.specs.Answered.{BringsJoint, BroughtJoint, BroughtLoaded, HasHeardGo, HasSettled, IsAnswered, GoesOver, SaidOfGo, gone_alone, taken_over, without_links};
+ghost use Rattle.vfm_move.specs.Answered.{BroughtJoint, BroughtLoaded, HasHeardGo, HasSettled, IsAnswered, GoesOver, SaidOfGo, gone_alone, taken_over, without_links};
 
 /// What a new link has received after a call is what came in it.
 pub fn new_links_receive()
@@ -36,11 +36,11 @@ pub fn new_links_receive()
 pub fn refused()
     ensures heard { (attempt : Attempt) (made : Made) (ends : ToldEnds) (why : Refusal)
         → IsAnswered (Refused why) attempt made ends → HasSettled made ends (Err (settling.Refused why))
-        → BringsJoint made ends → IsDecided attempt (Refused why) made ends }
+        → IsDecided attempt (Refused why) made ends }
     ensures unheeded { (attempt : Attempt) (made : Made) (ends : ToldEnds) (why : Refusal)
         → IsAnswered (Refused why) attempt made ends → HasSettled made ends (Ok tt)
         → WhereTold (Linked ends) (λ lines. verdict_of made lines ≡ Refuses why)
-        → BringsJoint made ends → IsDecided attempt (Refused why) made ends }
+        → IsDecided attempt (Refused why) made ends }
 {}
 
 /// The source heard that the destination staged a state with another digest.
@@ -48,21 +48,21 @@ pub fn unconfirmed()
     ensures { (attempt : Attempt) (made : Made) (ends : ToldEnds) (ours theirs : List ℕ)
         → IsAnswered (Unconfirmed ours theirs) attempt made ends
         → HasSettled made ends (Err (settling.Unconfirmed ours theirs))
-        → BringsJoint made ends → IsDecided attempt (Unconfirmed ours theirs) made ends }
+        → IsDecided attempt (Unconfirmed ours theirs) made ends }
 {}
 
 /// What the source heard is no answer.
 pub fn no_control()
     ensures { (attempt : Attempt) (made : Made) (ends : ToldEnds) (heard : List ℕ)
         → IsAnswered (NoControl heard) attempt made ends → HasSettled made ends (Err (settling.NoControl heard))
-        → BringsJoint made ends → IsDecided attempt (NoControl heard) made ends }
+        → IsDecided attempt (NoControl heard) made ends }
 {}
 
 /// The source heard its own digest, and another machine was staged.
 pub fn differs()
     ensures { (attempt : Attempt) (made : Made) (ends : ToldEnds) → IsAnswered Differs attempt made ends
         → HasSettled made ends (Ok tt) → StatesDiffer made → WhereTold (Linked ends) (BroughtLoaded made)
-        → BringsJoint made ends → IsDecided attempt Differs made ends }
+        → IsDecided attempt Differs made ends }
 {}
 
 /// The source heard its own digest, and its own machine was staged.
@@ -81,7 +81,7 @@ pub fn go_was_said()
 
 /// Go was sent, and what the destination heard is none.
 pub fn no_go()
-    ensures { (attempt : Attempt) (made : Made) (ends : ToldEnds) (heard : List ℕ)
+    ensures { (attempt : Attempt) (made : Made) (ends : ToldEnds) (heard : List ℕ) → IsValid made.desc
         → IsConfirmed WholeGo attempt made ends → IsHalfway (InDoubt (NoGoCame heard)) made
         → HasHeardGo made ends (Err (going.NoGo heard))
         → IsDecided attempt (InDoubt (NoGoCame heard)) made ends }

@@ -2,8 +2,10 @@
 //! and worked cases of that.
 #![tactic(auto)]
 
-pub mod ends;
 pub mod complete;
+pub mod ends;
 pub mod laws;
 pub mod steps;
 pub mod worked;
+pub mod worked_ends;
+pub mod worked_links;

@@ -1,7 +1,7 @@
 -- One arc fails at most, and one on the way to STOP_COPY.
 use Rattle.std.proofs.Common.{◌≡◌, ◌⊎◌, ℕ, zero, suc, ◌+◌, ◌<◌, ◌≤◌, ◌==◌, ◌&&◌, not, nat_lt, if◌then◌else◌, true, false, List, [], ◌∷◌, ◌++◌, Contains, None, refl, sym, ◌∙◌, subst, inl, inr, arith, ltb-true, eqb-true}
 use Rattle.std.proofs.lemmas.Bool.{and_parts, true≢false}
-use Rattle.std.proofs.lemmas.List.Elements.{Contains-append_cases}
+use Rattle.std.proofs.lemmas.List.Elements.{Contains-append_cases, Contains-append_right}
 use Rattle.vfm_types.specs.declared.desc.Desc.{Desc}
 use Rattle.vfm_types.specs.declared.entry.Entry.{Entry}
 use Rattle.vfm_types.specs.declared.entry.Entry.TheVariants.{Fail, Abort}
@@ -39,11 +39,24 @@ failed_at Abort past d to before has going = absurd (true≢false going)
 failed_at entry past d to before (inl first) going = let e = is_it entry (Fail d to) first in absurd cc
 failed_at entry past d to before (inr rest) going = before rest going
 
-failed_since : (past : List Entry) (d : ℕ) (to : MigState) → Contains past (Fail d to) → is_aborted past ≡ false
+pub failed_since : (past : List Entry) (d : ℕ) (to : MigState) → Contains past (Fail d to) → is_aborted past ≡ false
     → is_failed past ≡ true
 failed_since [] d to has going = absurd (nothing_in (Fail d to) has)
 failed_since (entry ∷ past) d to has going =
     failed_at entry past d to (failed_since past d to) (Contains-append_cases (entry ∷ []) past (Fail d to) has) going
+
+none_later : (entry : Entry) (past : List Entry) → ((d : ℕ) (to : MigState) → Contains (entry ∷ past) (Fail d to) → ⊥)
+    → (d : ℕ) (to : MigState) → Contains past (Fail d to) → ⊥
+none_later entry past none d to has = none d to (Contains-append_right (entry ∷ []) past (Fail d to) has)
+
+at_head : (entry : Entry) (past : List Entry) → Contains (entry ∷ past) entry
+at_head entry past = (zero, omega arith, refl)
+
+pub unfailed : (past : List Entry) → ((d : ℕ) (to : MigState) → Contains past (Fail d to) → ⊥) → is_failed past ≡ false
+unfailed [] none = refl
+unfailed (Fail d to ∷ past) none = absurd (none d to (at_head (Fail d to) past))
+unfailed (Abort ∷ past) none = refl
+unfailed (entry ∷ past) none = unfailed past (none_later entry past none)
 
 none_before : (D : Desc) (past : List Entry) (d other : ℕ) (to into : MigState) → IsLegal D (Fail d to ∷ past)
     → Contains past (Fail other into) → ⊥

@@ -5,4 +5,4 @@ mod abort;
 mod fails;
 
 pub use abort::{copies_stand_after_abort, no_arc_fails_after_abort};
-pub use fails::{arcs_fail_as_described, one_arc_fails};
+pub use fails::{arcs_fail_as_described, failed_moves_have_a_failed_arc, one_arc_fails};
