@@ -1,5 +1,5 @@
 -- What is seen to bring a status: an abort that is due, an arc that failed, or what the control link of either end received.
-use Rattle.std.proofs.Common.{◌≡◌, ◌≢◌, ℕ, ◌<◌, true, List, [], length, Option, Some, None, option_map, unwrap_or, Result, Ok, Err, Contains, refl, ap, subst, arith}
+use Rattle.std.proofs.Common.{◌≡◌, ◌≢◌, ℕ, ◌<◌, true, false, List, ◌++◌, [], length, Option, Some, None, IfSome, option_map, unwrap_or, Result, Ok, Err, Contains, refl, sym, ap, subst, arith}
 use Rattle.std.specs.Prelude.{⊤}
 use Rattle.std.specs.Option.{IsSomeAnd}
 use Rattle.sha2.proofs.Facts256.{length-sha256}
@@ -9,7 +9,7 @@ use Rattle.vfm_types.specs.declared.fault.LinkPlace.TheVariants.{Control}
 use Rattle.vfm_types.specs.declared.state.MigState.{MigState}
 use Rattle.vfm_types.specs.Machine.{Machine}
 use Rattle.vfm_outside.specs.Links.{Told, ToldEnds}
-use Rattle.vfm_outside.specs.Told.{TellsNone}
+use Rattle.vfm_outside.specs.Told.{TellsNone, with_appended}
 use Rattle.vfm_control.specs.declared.frame.Frame.{Frame}
 use Rattle.vfm_control.specs.declared.frame.Frame.TheVariants as frames
 use Rattle.vfm_control.specs.Frame.{frame_at, frame_bytes}
@@ -26,7 +26,7 @@ use Rattle.vfm_status.specs.declared.status.Status.TheVariants.{Moved, LinkFault
 use Rattle.vfm_move.specs.Contact.{Line, Lines, Linked, told_line, told_lines}
 use Rattle.vfm_move.specs.Carried.{own_digest}
 use Rattle.vfm_move.specs.Causes.{Attempt, AreTwoDigests, Brings, BroughtAnother, HeardInstead, IsAbortDue, Received}
-use Rattle.vfm_move.specs.Move.{came_to}
+use Rattle.vfm_move.specs.Move.{IsUnheard, came_to}
 
 -- ---- links that tell
 
@@ -51,6 +51,26 @@ sent_none link line is none = subst (λ (t : Told). TellsNone t.sent) is none
 
 pub ended_line : (link : Told) (line : Line) → link ≡ told_line line → link.ended ≡ true → line.ended ≡ true
 ended_line link line is ended = subst (λ (t : Told). t.ended ≡ true) is ended
+
+-- ---- new links
+
+-- what a link that was new has received is what came
+pub new_received : (before : Option (List ℕ)) (link : Told) (bytes : List ℕ) → TellsNone before
+    → link.received ≡ with_appended before bytes → Received link bytes
+new_received None link bytes none is = subst (λ (o : Option (List ℕ)). IfSome o (λ came. came ≡ bytes)) (sym is) tt
+new_received (Some told) link bytes none is =
+    subst (λ (o : Option (List ℕ)). IfSome o (λ came. came ≡ bytes)) (sym is) (ap (λ (xs : List ℕ). xs ++ bytes) none)
+
+few_some : (came : Option (List ℕ)) (bytes : List ℕ) → IfSome came (λ xs. xs ≡ bytes) → length bytes < 44
+    → IfSome came (λ xs. length xs < 44)
+few_some None bytes is few = tt
+few_some (Some xs) bytes is few = subst (λ (ys : List ℕ). length ys < 44) (sym is) few
+
+-- and less than a frame without an end is unheard
+pub cut_unheard : (before : Option (List ℕ)) (link : Told) (bytes : List ℕ) → TellsNone before
+    → link.received ≡ with_appended before bytes → length bytes < 44 → link.ended ≡ false → IsUnheard link
+cut_unheard before link bytes none is few going =
+    record { received = few_some link.received bytes (new_received before link bytes none is) few; ended = going }
 
 -- ---- what was heard
 

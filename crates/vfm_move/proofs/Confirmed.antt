@@ -49,7 +49,8 @@ answer_brings_none go_sent attempt made ends is lines result told heard =
 pub go_brings : (brought : Status) (go_sent : GoSent) (attempt : Attempt) (made : Made) (ends : ToldEnds)
     → IsConfirmed go_sent attempt made ends
     → IsBrought brought attempt made ends
-    → (lines : Lines) × (result : Result ⊤ GoFault) × (Linked ends ≡ Linked (told_lines lines)) × (gone_status result ≡ brought) × HeardGo made lines result
+    → (lines : Lines) × (result : Result ⊤ GoFault) × (Linked ends ≡ Linked (told_lines lines)) × (gone_status result ≡ brought)
+    × HeardGo made lines result
 go_brings brought go_sent attempt made ends is (due pass same abort) = absurd (is.unhindered.no_abort_due pass abort)
 go_brings brought go_sent attempt made ends is (arc d to same has) = absurd (is.unhindered.no_arc_failed d to has)
 go_brings brought go_sent attempt made ends is (answer lines result told same heard) =

@@ -1,5 +1,5 @@
 -- Steps that fail before an answer is heard: nothing else that can be seen brings another status.
-use Rattle.std.proofs.Common.{◌≡◌, ◌⊎◌, ℕ, ◌<◌, ◌≤◌, ◌==◌, ◌&&◌, ◌||◌, nat_lt, Bool, true, false, List, [], length, Option, Some, None, IfSome, Contains, slice_get, refl, sym, ap, ◌∙◌, subst, inl, inr, IsTrue, arith}
+use Rattle.std.proofs.Common.{◌≡◌, ◌⊎◌, ℕ, ◌<◌, ◌≤◌, ◌==◌, ◌&&◌, ◌||◌, nat_lt, Bool, true, false, List, length, Option, Some, None, IfSome, Contains, slice_get, refl, sym, ap, ◌∙◌, subst, inl, inr, IsTrue, arith}
 use Rattle.std.proofs.lemmas.Bool.{true≢false}
 use Rattle.std.proofs.lemmas.List.Sums.{get_or-le-sum_by}
 use Rattle.std.proofs.lemmas.Option.{get_or_from_slice_get, slice_get_within}
@@ -17,13 +17,14 @@ use Rattle.vfm_plain.specs.Report.{Made, source_past}
 use Rattle.vfm_move_laws.proofs.FailedArcs.{same_fail}
 use Rattle.vfm_status.specs.declared.status.Status.{Status}
 use Rattle.vfm_status.specs.declared.status.Status.TheVariants.{LinkFault, Aborted, ArcFailed, NoMemory}
-use Rattle.vfm_move.specs.Contact.{Line, Lines, Linked, WhereTold, told_line, told_lines}
-use Rattle.vfm_move.specs.Carried.{HasAnswered}
-use Rattle.vfm_move.specs.Causes.{Attempt, Brings, FailedIn, FailedOut, IsAbortDue, YieldsTo}
-use Rattle.vfm_move.specs.Complete.{IsToMove}
+use Rattle.vfm_move.specs.Contact.{Line, Linked, WhereTold, told_line}
+use Rattle.vfm_move.specs.Table.{GoSent, Heard, Neither, Unsaid, WentOn, answering_at, heard_at, owner_at}
+use Rattle.vfm_move.specs.Carried.{AnswersAt, BringsState, HasAnswered, HasHeard, HasSaidGo}
+use Rattle.vfm_move.specs.Causes.{Attempt, Brings, FailedIn, FailedOut, HasCause, IsAbortDue, YieldsTo}
+use Rattle.vfm_move.specs.Complete.{IsComplete, IsToMove}
 use Rattle.vfm_move.specs.Move.{AreUnheard, IsDecided, IsUnanswered, IsUnheard, IsUnhindered, NoArcFailed, came_to}
 use Rattle.vfm_move.proofs.Brought.{IsBrought, due, arc, answer, go, answer_cut, brought_by, dest_line, go_cut, sent_none, source_line}
-use Rattle.vfm_move.proofs.Cases.{to_memory}
+use Rattle.vfm_move.proofs.Cases.{silent, to_memory}
 use Rattle.vfm_move.proofs.Failing.{described_arcs}
 
 -- ---- links that heard less than a frame
@@ -57,12 +58,6 @@ hinders : (brought at : Status) (attempt : Attempt) (made : Made) (ends : ToldEn
     → Brings brought attempt (came_to at made ends)
     → IsHindered brought attempt made
 hinders brought at attempt made ends unheard brings = hindered brought attempt made ends unheard (brought_by brought at attempt made ends brings)
-
--- ---- what was carried
-
-carries : (status : Status) (made : Made) (ends : ToldEnds) → IsUnanswered status made ends
-    → ((lines : Lines) → Linked ends ≡ Linked (told_lines lines) → lines.source_control.sent ≡ [])
-carries status made ends un lines told = sent_none ends.source_control lines.source_control (source_line ends lines told) un.unheard.unsaid
 
 -- ---- counts
 
@@ -128,105 +123,86 @@ still_due attempt pass made abort (inr fewer) =
 
 -- ---- the steps
 
+-- A step that failed before an answer was heard decides a move by its cause, where what else can be seen brings no other status.
+decided : (status : Status) (attempt : Attempt) (made : Made) (ends : ToldEnds) → IsUnanswered status made ends
+    → owner_at status ≡ WentOn → heard_at status ≡ Unsaid → HasCause status attempt (came_to status made ends)
+    → ((brought : Status) → Brings brought attempt (came_to status made ends) → (status ≡ brought) ⊎ YieldsTo brought status)
+    → WhereTold (Linked ends) (λ lines. BringsState status made lines × AnswersAt (answering_at status) made lines)
+    → IsComplete attempt made (came_to status made ends) → IsDecided attempt status made ends
+decided status attempt made ends un on unsaid cause exact rest complete =
+    record {
+      stands = un.stands;
+      halfway = un.halfway;
+      copied = λ neither. absurd (went_on_once (sym on ∙ neither));
+      explained = record { cause = cause; exact = exact };
+      carried = λ lines told. record {
+        channels = un.sent lines told;
+        state = (rest lines told).0;
+        hands = record {
+          heard = subst (λ (h : Heard). HasHeard h made lines) (sym unsaid) tt;
+          go = subst (λ (g : GoSent). HasSaidGo g made lines.source_control.sent) (sym (silent status on))
+              (sent_none ends.source_control lines.source_control (source_line ends lines told) un.unheard.unsaid);
+          answer = (rest lines told).1;
+        };
+      };
+      complete = complete;
+    }
+  where
+    went_on_once : WentOn ≡ Neither → ⊥
+    went_on_once same = cc
+
 -- an arc failed
 pub arc_failed : (attempt : Attempt) (made : Made) (ends : ToldEnds) (d : ℕ) (to : MigState) → IsValid made.desc
     → IsUnanswered (ArcFailed d to) made ends → Contains (source_past made) (Fail d to)
     → ((pass : ℕ) → IsAbortDue attempt pass made → ⊥)
     → IsDecided attempt (ArcFailed d to) made ends
 arc_failed attempt made ends d to valid un failed none =
-    record {
-      stands = un.stands;
-      halfway = un.halfway;
-      copied = λ neither. absurd cc;
-      explained = record {
-        cause = failed;
-        exact = λ brought brings.
-            same_arc brought d to attempt made
-            (λ other into has. same_fail made.desc (source_past made) d other to into un.stands.legal failed has) none
-            (hinders brought (ArcFailed d to) attempt made ends un.unheard brings);
-      };
-      carried = λ lines told. record {
-        channels = un.sent lines told;
-        state = tt;
-        hands = record { heard = tt; go = carries (ArcFailed d to) made ends un lines told; answer = tt };
-      };
-      complete = λ moves never quiet carry. absurd (described_arcs made d to valid un.stands.legal failed never);
-    }
+    decided (ArcFailed d to) attempt made ends un refl refl failed
+    (λ brought brings.
+    same_arc brought d to attempt made
+    (λ other into has. same_fail made.desc (source_past made) d other to into un.stands.legal failed has) none
+    (hinders brought (ArcFailed d to) attempt made ends un.unheard brings))
+    (λ lines told. (tt, tt))
+    (λ moves never quiet carry. absurd (described_arcs made d to valid un.stands.legal failed never))
 
 -- a channel of the source failed
 pub source_failed : (attempt : Attempt) (made : Made) (ends : ToldEnds) (k : ℕ)
     → IsUnanswered (LinkFault (Source k)) made ends
     → NoArcFailed made → FailedOut ends.source k → IsDecided attempt (LinkFault (Source k)) made ends
 source_failed attempt made ends k un none failed =
-    record {
-      stands = un.stands;
-      halfway = un.halfway;
-      copied = λ neither. absurd cc;
-      explained = record {
-        cause = failed;
-        exact = λ brought brings.
-            yields_pass brought k attempt made none (hinders brought (LinkFault (Source k)) attempt made ends un.unheard brings);
-      };
-      carried = λ lines told. record {
-        channels = un.sent lines told;
-        state = tt;
-        hands = record { heard = tt; go = carries (LinkFault (Source k)) made ends un lines told; answer = tt };
-      };
-      complete = λ moves never quiet carry.
-          absurd (some_failed ends.source k (λ link. link.failed_out) (λ link. omega arith) failed (source_count ends quiet));
-    }
+    decided (LinkFault (Source k)) attempt made ends un refl refl failed
+    (λ brought brings. yields_pass brought k attempt made none (hinders brought (LinkFault (Source k)) attempt made ends un.unheard brings))
+    (λ lines told. (tt, tt))
+    (λ moves never quiet carry.
+    absurd (some_failed ends.source k (λ link. link.failed_out) (λ link. omega arith) failed (source_count ends quiet)))
 
 -- a channel of the destination failed
 pub dest_failed : (attempt : Attempt) (made : Made) (ends : ToldEnds) (k : ℕ)
     → IsUnanswered (LinkFault (Destination k)) made ends
     → IsUnhindered attempt made → FailedIn ends.dest k → IsDecided attempt (LinkFault (Destination k)) made ends
 dest_failed attempt made ends k un none failed =
-    record {
-      stands = un.stands;
-      halfway = un.halfway;
-      copied = λ neither. absurd cc;
-      explained = record {
-        cause = failed;
-        exact = λ brought brings.
-            nothing_due brought (LinkFault (Destination k)) attempt made none
-            (hinders brought (LinkFault (Destination k)) attempt made ends un.unheard brings);
-      };
-      carried = λ lines told. record {
-        channels = un.sent lines told;
-        state = tt;
-        hands = record { heard = tt; go = carries (LinkFault (Destination k)) made ends un lines told; answer = tt };
-      };
-      complete = λ moves never quiet carry.
-          absurd (some_failed ends.dest k (λ link. link.failed_in) (λ link. omega arith) failed (dest_count ends quiet));
-    }
+    decided (LinkFault (Destination k)) attempt made ends un refl refl failed
+    (λ brought brings.
+    nothing_due brought (LinkFault (Destination k)) attempt made none
+    (hinders brought (LinkFault (Destination k)) attempt made ends un.unheard brings))
+    (λ lines told. (tt, tt))
+    (λ moves never quiet carry.
+    absurd (some_failed ends.dest k (λ link. link.failed_in) (λ link. omega arith) failed (dest_count ends quiet)))
 
 -- the answer failed to be sent
 pub answer_failed : (attempt : Attempt) (made : Made) (ends : ToldEnds) → IsUnanswered (LinkFault Control) made ends
     → IsUnhindered attempt made → Rose 0 ends.dest_control.failed_out → ends.source_control.failed_in ≡ 0
     → IsDecided attempt (LinkFault Control) made ends
 answer_failed attempt made ends un none failed unheard =
-    record {
-      stands = un.stands;
-      halfway = un.halfway;
-      copied = λ neither. absurd cc;
-      explained = record {
-        cause = inl failed;
-        exact = λ brought brings.
-            nothing_due brought (LinkFault Control) attempt made none
-            (hinders brought (LinkFault Control) attempt made ends un.unheard brings);
-      };
-      carried = λ lines told. record {
-        channels = un.sent lines told;
-        state = tt;
-        hands = record {
-          heard = tt;
-          go = carries (LinkFault Control) made ends un lines told;
-          answer = λ rose. absurd (none_rose lines.source_control.failed_in
-              (sym (ap (λ (t : Told). t.failed_in) (source_line ends lines told)) ∙ unheard) rose);
-        };
-      };
-      complete = λ moves never quiet carry. absurd (none_rose ends.dest_control.failed_out (omega (arith, quiet)) failed);
-    }
+    decided (LinkFault Control) attempt made ends un refl refl (inl failed)
+    (λ brought brings.
+    nothing_due brought (LinkFault Control) attempt made none (hinders brought (LinkFault Control) attempt made ends un.unheard brings))
+    (λ lines told. (
+      tt,
+      λ rose. absurd (none_rose lines.source_control.failed_in
+          (sym (ap (λ (t : Told). t.failed_in) (source_line ends lines told)) ∙ unheard) rose),
+    ))
+    (λ moves never quiet carry. absurd (none_rose ends.dest_control.failed_out (omega (arith, quiet)) failed))
 
 -- the answer wasn't heard, since the source's control link failed
 pub answer_unheard : (attempt : Attempt) (made : Made) (ends : ToldEnds) → IsUnanswered (LinkFault Control) made ends
@@ -234,58 +210,23 @@ pub answer_unheard : (attempt : Attempt) (made : Made) (ends : ToldEnds) → IsU
     → WhereTold (Linked ends) (λ lines. HasAnswered made lines)
     → IsDecided attempt (LinkFault Control) made ends
 answer_unheard attempt made ends un none failed answered =
-    record {
-      stands = un.stands;
-      halfway = un.halfway;
-      copied = λ neither. absurd cc;
-      explained = record {
-        cause = inr failed;
-        exact = λ brought brings.
-            nothing_due brought (LinkFault Control) attempt made none
-            (hinders brought (LinkFault Control) attempt made ends un.unheard brings);
-      };
-      carried = λ lines told. record {
-        channels = un.sent lines told;
-        state = tt;
-        hands = record { heard = tt; go = carries (LinkFault Control) made ends un lines told; answer = λ rose. answered lines told };
-      };
-      complete = λ moves never quiet carry. absurd (none_rose ends.source_control.failed_in (omega (arith, quiet)) failed);
-    }
+    decided (LinkFault Control) attempt made ends un refl refl (inr failed)
+    (λ brought brings.
+    nothing_due brought (LinkFault Control) attempt made none (hinders brought (LinkFault Control) attempt made ends un.unheard brings))
+    (λ lines told. (tt, λ rose. answered lines told))
+    (λ moves never quiet carry. absurd (none_rose ends.source_control.failed_in (omega (arith, quiet)) failed))
 
 -- the pass has ended after which the source is to give up
 pub pass_ended : (attempt : Attempt) (made : Made) (ends : ToldEnds) (pass : ℕ) → IsUnanswered (Aborted pass) made ends
     → NoArcFailed made → IsAbortDue attempt pass made → IsDecided attempt (Aborted pass) made ends
 pass_ended attempt made ends pass un none abort =
-    record {
-      stands = un.stands;
-      halfway = un.halfway;
-      copied = λ neither. absurd cc;
-      explained = record {
-        cause = abort;
-        exact = λ brought brings.
-            same_pass brought pass attempt made none abort (hinders brought (Aborted pass) attempt made ends un.unheard brings);
-      };
-      carried = λ lines told. record {
-        channels = un.sent lines told;
-        state = tt;
-        hands = record { heard = tt; go = carries (Aborted pass) made ends un lines told; answer = tt };
-      };
-      complete = λ moves never quiet carry. absurd (still_due attempt pass made abort moves);
-    }
+    decided (Aborted pass) attempt made ends un refl refl abort
+    (λ brought brings. same_pass brought pass attempt made none abort (hinders brought (Aborted pass) attempt made ends un.unheard brings))
+    (λ lines told. (tt, tt)) (λ moves never quiet carry. absurd (still_due attempt pass made abort moves))
 
 -- memory was wanting
 pub memory_wanting : (attempt : Attempt) (made : Made) (ends : ToldEnds) → IsUnanswered NoMemory made ends
     → IsDecided attempt NoMemory made ends
 memory_wanting attempt made ends un =
-    record {
-      stands = un.stands;
-      halfway = un.halfway;
-      copied = λ neither. absurd cc;
-      explained = record { cause = tt; exact = λ brought brings. inr (to_memory brought) };
-      carried = λ lines told. record {
-        channels = un.sent lines told;
-        state = tt;
-        hands = record { heard = tt; go = carries NoMemory made ends un lines told; answer = tt };
-      };
-      complete = λ moves never quiet carry. inr refl;
-    }
+    decided NoMemory attempt made ends un refl refl tt (λ brought brings. inr (to_memory brought)) (λ lines told. (tt, tt))
+    (λ moves never quiet carry. inr refl)

@@ -1,7 +1,7 @@
 //! How a move ends: by what the source heard, by what the destination heard of Go, or before there were links. Each law
 //! is a function without a body whose contract states it.
 
-ghost use Rattle.std.specs.Prelude.{◌≡◌, ℕ, List, [], ◌∷◌, Option, None, Ok, Err, length};
+ghost use Rattle.std.specs.Prelude.{◌≡◌, ℕ, ◌<◌, false, List, [], ◌∷◌, length, Option, None, Ok, Err};
 ghost use Rattle.vfm_types.specs.declared.desc.Desc.{Desc};
 ghost use Rattle.vfm_types.specs.declared.entry.Entry.{Entry};
 ghost use Rattle.vfm_types.specs.declared.fault.LinkPlace.TheVariants.{Connect};
@@ -22,13 +22,16 @@ ghost use Rattle.vfm_move.specs.Contact.{Failed, Linked, Untouched, WhereTold};
 ghost use Rattle.vfm_move.specs.Table.{GoSent, NoGo, WholeGo};
 ghost use Rattle.vfm_move.specs.Carried.{HasSaidGo, verdict_of};
 ghost use Rattle.vfm_move.specs.Causes.{Attempt, IsExplained, Received, StatesDiffer};
-ghost use Rattle.vfm_move.specs.Move.{GoesOn, HasEnded, IsConfirmed, IsDecided, IsHalfway, IsMoveOf, WiresDid, asked_by, came_to};
+ghost use Rattle.vfm_move.specs.Move.{GoesOn, HasEnded, IsConfirmed, IsDecided, IsHalfway, IsMoveOf, IsUnheard, WiresDid, asked_by, came_to};
 ghost use Rattle.vfm_move.specs.Answered.{BroughtJoint, BroughtLoaded, HasHeardGo, HasSettled, IsAnswered, GoesOver, SaidOfGo, gone_alone, taken_over, without_links};
 
-/// What a new link has received after a call is what came in it.
+/// What a new link has received after a call is what came in it; where that is less than a frame, and no end came,
+/// nothing was heard.
 pub fn new_links_receive()
-    ensures { (before : Option (List ℕ)) (link : Told) (bytes : List ℕ) → TellsNone before
+    ensures received { (before : Option (List ℕ)) (link : Told) (bytes : List ℕ) → TellsNone before
         → link.received ≡ with_appended before bytes → Received link bytes }
+    ensures cut_short { (before : Option (List ℕ)) (link : Told) (bytes : List ℕ) → TellsNone before
+        → link.received ≡ with_appended before bytes → length bytes < 44 → link.ended ≡ false → IsUnheard link }
 {}
 
 /// The source heard that the destination refuses; or the destination refused what came, and the source heard its own
