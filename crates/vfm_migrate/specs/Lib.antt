@@ -1,0 +1,5 @@
+pub mod Links
+pub mod Offered
+pub mod Brought
+pub mod Answers
+pub mod Carrying
