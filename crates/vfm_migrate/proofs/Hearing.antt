@@ -13,7 +13,10 @@ use Rattle.vfm_outside.specs.Links.{IsNew, Told, ToldEnds}
 use Rattle.vfm_core.specs.CoreState.{CoreState}
 use Rattle.vfm_source.specs.declared.fault.OfferFault.{OfferFault}
 use Rattle.vfm_source.specs.declared.fault.OfferFault.TheVariants as offering
+use Rattle.vfm_source.specs.declared.phase.Phase.{Phase}
+use Rattle.vfm_source.specs.declared.phase.Phase.TheVariants as phases
 use Rattle.vfm_dest.specs.StagedCores.{StagedState}
+use Rattle.vfm_dest.specs.Stages.{core_of}
 use Rattle.vfm_handshake.specs.declared.fault.SettleFault.{SettleFault}
 use Rattle.vfm_handshake.specs.declared.fault.SettleFault.TheVariants as settling
 use Rattle.vfm_control.specs.declared.frame.Frame.{Frame}
@@ -26,7 +29,7 @@ use Rattle.vfm_move.specs.Causes.{Attempt}
 use Rattle.vfm_move.specs.Move.{IsDecided, IsUnheard}
 use Rattle.vfm_move.specs.Table.{WentOn, owner_at}
 use Rattle.vfm_migrate.specs.Answers.{AnswersOrFails, AwaitsAnswer, Compares, HasAnsweredBy, HeardNothing, HearsAnswer, StagedAs, ends_of, status_of_offer, status_of_settle, with_source}
-use Rattle.vfm_migrate.specs.Carrying.{ComesTo, machine_of_staged}
+use Rattle.vfm_migrate.specs.Carrying.{ComesTo, IsStepOf, machine_of_staged}
 use Rattle.vfm_migrate.specs.Offered.{made_so_far}
 use Rattle.vfm_migrate.specs.declared.step.Step.{Step}
 use Rattle.vfm_migrate.specs.declared.step.Step.TheVariants as steps
@@ -135,3 +138,20 @@ pub still_unheard : (before now : Told) → IsNew before → now.received ≡ be
 still_unheard before now new received ended =
     let un = unheard_new before new in
     record { received = subst (λ (o : Option (List ℕ)). IfSome o (λ xs. length xs < 44)) (sym received) un.received; ended = ended ∙ un.ended }
+
+-- both machines compared, where the source has settled
+pub kind_compared : (D : Desc) (core : CoreState) (staged : StagedState) (step : Step) (phase : Phase) → phase ≡ phases.Settled
+    → (core_of staged).desc ≡ D → Compares core staged step → IsStepOf D phase step
+kind_compared D core staged (steps.Confirmed other) phase settled same compared =
+    (ap (λ (one : StagedState). (core_of one).desc) compared.0 ∙ same, settled)
+kind_compared D core staged (steps.Decided status loaded) phase settled same compared = (
+  subst (λ (o : Option StagedState). IfSome o (λ one. (core_of one).desc ≡ D)) (sym compared.1) same,
+  λ gone. settled_not_gone (sym settled ∙ gone),
+  λ given. settled_not_given_up (sym settled ∙ given),
+)
+  where
+    settled_not_gone : phases.Settled ≡ phases.Gone → ⊥
+    settled_not_gone same = cc
+
+    settled_not_given_up : phases.Settled ≡ phases.GivenUp → ⊥
+    settled_not_given_up same = cc

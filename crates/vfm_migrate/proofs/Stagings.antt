@@ -1,5 +1,5 @@
 -- Staging over new links, as what its channels brought.
-use Rattle.std.proofs.Common.{◌≡◌, ℕ, ◌+◌, ◌<◌, ◌≤◌, ◌==◌, true, false, All, List, [], length, map, slice_index_or, Option, Some, IfSome, Result, Ok, Err, refl, ap, ap₂, sym, ◌∙◌, subst, arith, inl, inr, ⊎_elim, zero, suc, ◌∷◌, eqb-true, eq-eqb}
+use Rattle.std.proofs.Common.{◌≡◌, ℕ, ◌+◌, ◌<◌, ◌≤◌, ◌==◌, true, false, All, List, [], length, map, slice_index_or, Option, Some, IfOk, IfSome, Result, Ok, Err, refl, ap, ap₂, sym, ◌∙◌, subst, arith, inl, inr, ⊎_elim, zero, suc, ◌∷◌, eqb-true, eq-eqb}
 use Rattle.std.proofs.lemmas.Bool.{cond-false, cond-true, eqb-false}
 use Rattle.std.proofs.lemmas.List.{get_or-map, length-map, same_lists}
 use Rattle.std.proofs.Math.Bridge.{le_prop}
@@ -206,3 +206,9 @@ module _ {L : Type 0} (words : LinkWords L) (before now : List L) (count : lengt
   staged_for D (Err (faults.Refusal why)) judged out names = brought_by D (Err (faults.Refusal why)) (Refuses why) out judged judged.says
   staged_for D (Err (faults.Link k)) judged out names = failed_in k names
   staged_for D (Err faults.NoMemory) judged out names = tt
+
+-- a core that was staged is of the description
+pub staged_desc : (D : Desc) (told : List Told) (result : Result StagedState StageFault) → StagedFor D told result
+    → IfOk result (λ staged. (core_of staged).desc ≡ D)
+staged_desc D told (Ok staged) is = is.desc
+staged_desc D told (Err fault) is = tt

@@ -21,7 +21,6 @@ use Rattle.vfm_handshake.specs.declared.fault.SettleFault.TheVariants as settlin
 use Rattle.vfm_handshake.specs.Control.{Receipt, Settles}
 use Rattle.vfm_streams.specs.Verdict.{Verdict}
 use Rattle.vfm_source.specs.Source.{MoverState}
-use Rattle.vfm_source.specs.declared.phase.Phase.{Phase}
 use Rattle.vfm_source.specs.declared.phase.Phase.TheVariants as phases
 use Rattle.vfm_source.specs.declared.fault.OfferFault.{OfferFault}
 use Rattle.vfm_source.specs.declared.fault.OfferFault.TheVariants as offering
@@ -130,8 +129,3 @@ Compares core staged (steps.Confirmed other) =
     (other ≡ staged) × (machine_in core.world ≡ machine_in (core_of staged).world)
 Compares core staged (steps.Decided status loaded) =
     (status ≡ statuses.Differs) × (loaded ≡ Some staged) × (machine_in (core_of staged).world ≢ machine_in core.world)
-
--- where Go may be said, the source has settled
-abbrev pub SettledAt : Step → Phase → Type 0
-SettledAt (steps.Confirmed staged) phase = phase ≡ phases.Settled
-SettledAt (steps.Decided status loaded) phase = Unit {0}

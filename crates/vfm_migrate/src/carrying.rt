@@ -1,7 +1,9 @@
 //! A move over its links: the source offers, the destination stages and answers, and the source hears that.
 
 ghost use Rattle.std.specs.Prelude.{◌≡◌, ◌≢◌, IfOk, IsFalse, IsOk, List, length};
+ghost use Rattle.vfm_types.specs.declared.desc.Desc.{Desc as Described};
 ghost use Rattle.vfm_types.specs.Valid.{IsValid};
+ghost use Rattle.vfm_dest.specs.Stages.{core_of};
 ghost use Rattle.vfm_outside.specs.Links.{AreNew, IsNew, Told};
 ghost use Rattle.vfm_order.specs.LookAfter.{is_over};
 ghost use Rattle.vfm_outside.specs.Carried.{told_by};
@@ -9,9 +11,9 @@ ghost use Rattle.vfm_source.specs.declared.phase.Phase.TheVariants as phases;
 ghost use Rattle.vfm_source.specs.Moving.{past_in};
 ghost use Rattle.vfm_source.specs.Source.{Moves};
 ghost use Rattle.vfm_move.specs.Causes.{Attempt};
-ghost use Rattle.vfm_migrate.specs.Answers.{IsAsBefore, SettledAt, ends_of};
+ghost use Rattle.vfm_migrate.specs.Answers.{IsAsBefore, ends_of};
 ghost use Rattle.vfm_migrate.specs.Brought.{StagedFor};
-ghost use Rattle.vfm_migrate.specs.Carrying.{ComesTo};
+ghost use Rattle.vfm_migrate.specs.Carrying.{ComesTo, IsStepOf};
 ghost use Rattle.vfm_migrate.specs.Links.{tells};
 ghost use Rattle.vfm_migrate.specs.Offered.{IsOffered};
 
@@ -46,7 +48,7 @@ fn shake<L: Link>(
         (ends_of from to (told_by L.ended L.failed_out L.failed_in L.sent L.received source.new)
         (told_by L.ended L.failed_out L.failed_in L.sent L.received dest.new)) result }
     ensures mover { IsAsBefore mover.old mover.new }
-    ensures settled { SettledAt result mover.new.phase }
+    ensures kind { (D : Described) → IfOk staged (λ staged. (core_of staged).desc ≡ D) → IsStepOf D mover.new.phase result }
 {
     match offered {
         Ok(_) => answer(desc, mover, staged, source, dest),
@@ -70,19 +72,17 @@ pub(crate) fn carry<L: Link>(
     abort_after: u32,
 ) -> (Ends<L>, Step)
     requires fresh { mover.old.phase ≡ phases.Fresh }
+    requires same { mover.old.core.desc ≡ desc.now }
     requires valid { IsValid desc.now }
-    requires desc { mover.old.core.desc ≡ desc.now }
     requires new { AreNew desc.now.channels (tells L.ended L.failed_out L.failed_in L.sent L.received ends) }
-    ensures step { (attempt : Attempt) → attempt.abort_after ≡ abort_after
-        → ComesTo attempt mover.new.core mover.new.digest (tells L.ended L.failed_out L.failed_in L.sent L.received result.0) result.1 }
+    ensures comes_to { (attempt : Attempt) → attempt.abort_after ≡ abort_after → ComesTo attempt mover.new.core mover.new.digest
+        (tells L.ended L.failed_out L.failed_in L.sent L.received result.0) result.1 }
     ensures moves { Moves (past_in mover.new.core) mover.new }
     ensures going { IsFalse (is_over (past_in mover.new.core)) }
-    ensures desc { mover.new.core.desc ≡ mover.old.core.desc }
-    ensures settled { SettledAt result.1 mover.new.phase }
-    ensures not_gone { mover.new.phase ≢ phases.Gone }
-    ensures not_given_up { mover.new.phase ≢ phases.GivenUp }
-    ensures source_links { length result.0.source.items ≡ desc.now.channels }
-    ensures dest_links { length result.0.dest.items ≡ desc.now.channels }
+    ensures desc { mover.new.core.desc ≡ desc.now }
+    ensures source { length result.0.source.items ≡ desc.now.channels }
+    ensures dest { length result.0.dest.items ≡ desc.now.channels }
+    ensures step { IsStepOf desc.now mover.new.phase result.1 }
 {
     let Ends {
         mut source_control,

@@ -7,6 +7,7 @@ ghost use Rattle.vfm_outside.specs.Links.{IsNew};
 ghost use Rattle.vfm_source.specs.declared.phase.Phase.TheVariants as phases;
 ghost use Rattle.vfm_source.specs.Moving.{past_in};
 ghost use Rattle.vfm_source.specs.Source.{Moves};
+ghost use Rattle.vfm_dest.specs.Stages.{core_of};
 ghost use Rattle.vfm_migrate.specs.Brought.{StagedFor};
 ghost use Rattle.vfm_migrate.specs.Offered.{IsOffered};
 
@@ -50,6 +51,7 @@ pub(crate) fn stage<L: Link>(
     requires new { All IsNew (map (told_by L.ended L.failed_out L.failed_in L.sent L.received) links.items) }
     ensures staged { StagedFor desc.now (map (told_by L.ended L.failed_out L.failed_in L.sent L.received) result.0.items) result.1 }
     ensures links { length result.0.items ≡ length links.items }
+    ensures desc { IfOk result.1 (λ staged. (core_of staged).desc ≡ desc.now) }
 {
     vfm_dest::stage(alloc, desc, links)
 }

@@ -1,16 +1,18 @@
 //! The control links of a move: the destination's answer is said and heard, and both machines are compared.
 
-ghost use Rattle.std.specs.Prelude.{◌≡◌, List, None, Ok};
+ghost use Rattle.std.specs.Prelude.{◌≡◌, IfOk, List, None, Ok};
+ghost use Rattle.vfm_types.specs.declared.desc.Desc.{Desc as Described};
 ghost use Rattle.vfm_outside.specs.Carried.{told_by};
+ghost use Rattle.vfm_dest.specs.Stages.{core_of};
 ghost use Rattle.vfm_outside.specs.Links.{IsNew, Told, ToldEnds};
 ghost use Rattle.vfm_source.specs.declared.phase.Phase.TheVariants as phases;
 ghost use Rattle.vfm_streams.specs.Verdict.{Loads, Refuses};
 ghost use Rattle.vfm_move.specs.Causes.{Attempt};
 ghost use Rattle.vfm_move.specs.Move.{IsDecided};
 ghost use Rattle.vfm_move.specs.Table.{WentOn, owner_at};
-ghost use Rattle.vfm_migrate.specs.Answers.{AnswersOrFails, AwaitsAnswer, Compares, IsAsBefore, SettledAt, StagedAs, ends_of, status_of_offer, status_of_settle, with_source};
+ghost use Rattle.vfm_migrate.specs.Answers.{AnswersOrFails, AwaitsAnswer, Compares, IsAsBefore, StagedAs, ends_of, status_of_offer, status_of_settle, with_source};
 ghost use Rattle.vfm_migrate.specs.Brought.{StagedFor};
-ghost use Rattle.vfm_migrate.specs.Carrying.{ComesTo, machine_of_staged};
+ghost use Rattle.vfm_migrate.specs.Carrying.{ComesTo, IsStepOf, machine_of_staged};
 ghost use Rattle.vfm_migrate.specs.Offered.{IsOffered, made_so_far};
 
 use crate::step::Step;
@@ -114,7 +116,7 @@ fn hear_staged<L: Link>(
         → ComesTo attempt mover.old.core mover.old.digest
         (with_source (told_by L.ended L.failed_out L.failed_in L.sent L.received source.new) ends) result }
     ensures source { IsAsBefore mover.old mover.new }
-    ensures settled { SettledAt result mover.new.phase }
+    ensures kind { (D : Described) → (core_of staged).desc ≡ D → IsStepOf D mover.new.phase result }
 {
     if answered.is_err() {
         return Step::Decided {
@@ -149,7 +151,7 @@ pub(crate) fn answer<L: Link>(
         (ends_of from to (told_by L.ended L.failed_out L.failed_in L.sent L.received source.new)
         (told_by L.ended L.failed_out L.failed_in L.sent L.received dest.new)) result }
     ensures mover { IsAsBefore mover.old mover.new }
-    ensures settled { SettledAt result mover.new.phase }
+    ensures kind { (D : Described) → IfOk staged (λ staged. (core_of staged).desc ≡ D) → IsStepOf D mover.new.phase result }
 {
     let answered = vfm_dest::answer(dest, desc.session, &staged);
     match staged {

@@ -8,8 +8,8 @@ use Rattle.vfm_migrate.specs.Carrying.{ComesTo}
 use Rattle.vfm_migrate.specs.Offered.{IsOffered}
 use Rattle.vfm_migrate.proofs.carrying.carry.Goals as goal
 
-pub returns-clause-step : goal.returns-clause-step
-returns-clause-step g c = λ attempt asked.
+pub returns-clause-comes_to : goal.returns-clause-comes_to
+returns-clause-comes_to g c = λ attempt asked.
     let T = told_by g.L.Link.ended g.L.Link.failed_out g.L.Link.failed_in g.L.Link.sent g.L.Link.received in
     let mid = c.offer-source.new.mover in
     let from : List Told = map T c.offer-source.result.0.items in
@@ -21,3 +21,6 @@ returns-clause-step g c = λ attempt asked.
     c.shake-step.ensures.step attempt from to offered c.stage-dest.ensures.staged in
     subst (λ (s : CoreState). ComesTo attempt s c.shake-step.new.mover.digest ends c.shake-step.result) (sym c.shake-step.ensures.mover.core)
     (subst (λ (own : List ℕ). ComesTo attempt mid.core own ends c.shake-step.result) (sym c.shake-step.ensures.mover.digest) comes)
+
+pub returns-clause-step : goal.returns-clause-step
+returns-clause-step g c = c.shake-step.ensures.kind c.args.desc.now c.stage-dest.ensures.desc

@@ -1,5 +1,5 @@
 -- By what the destination staged.
-use Rattle.std.proofs.Common.{◌≡◌, ◌∙◌, List, Err, Result, ap, ap₂, sym, subst, refl, rules, ℕ}
+use Rattle.std.proofs.Common.{◌≡◌, ◌∙◌, List, Err, Result, IfOk, ap, ap₂, sym, subst, refl, rules, ℕ}
 use Rattle.vfm_types.specs.declared.desc.Desc.{Desc}
 use Rattle.vfm_outside.specs.Carried.{told_by}
 use Rattle.vfm_outside.specs.Links.{Told, ToldEnds}
@@ -7,7 +7,7 @@ use Rattle.vfm_control.specs.declared.frame.Frame.TheVariants as frames
 use Rattle.vfm_plain.specs.StateText.{state_digest}
 use Rattle.vfm_streams.specs.Verdict.{Loads, Refuses}
 use Rattle.vfm_dest.specs.StagedCores.{StagedState}
-use Rattle.vfm_dest.specs.Stages.{digest_of}
+use Rattle.vfm_dest.specs.Stages.{core_of, digest_of}
 use Rattle.vfm_dest.specs.Saying.{frame_for}
 use Rattle.vfm_dest.specs.declared.judging.StageFault.{StageFault}
 use Rattle.vfm_dest.specs.declared.judging.StageFault.TheVariants as faults
@@ -96,3 +96,8 @@ returns-in-Err-NoMemory-clause-step g c = λ attempt from to offered staged_for.
     let nothing : HeardNothing now =
     still_nothing before now c.requires.dest c.answer-answered.ensures.received c.answer-answered.ensures.ended c.answer-answered.ensures.failed_in in
     (memory_wanting attempt core ends digest offered c.requires.source (unheard_nothing now nothing), refl)
+
+pub returns-in-Ok-clause-kind : goal.returns-in-Ok-clause-kind
+returns-in-Ok-clause-kind g c = λ D all.
+    c.hear_staged.ensures.kind D
+    (subst (λ (r : Result StagedState StageFault). IfOk r (λ staged. (core_of staged).desc ≡ D)) c.in-Ok.is all)

@@ -7,7 +7,7 @@ use Rattle.vfm_source.specs.Source.{MoverState}
 use Rattle.vfm_streams.specs.Verdict.{Loads}
 use Rattle.vfm_migrate.specs.Answers.{Compares, HearsAnswer}
 use Rattle.vfm_migrate.specs.Carrying.{machine_of_staged}
-use Rattle.vfm_migrate.proofs.Hearing.{heard_compared, heard_other_step, not_sent}
+use Rattle.vfm_migrate.proofs.Hearing.{heard_compared, heard_other_step, kind_compared, not_sent}
 use Rattle.vfm_migrate.proofs.control.hear_staged.Goals as goal
 
 pub returns-then-is_err-clause-step : goal.returns-then-is_err-clause-step
@@ -54,3 +54,8 @@ returns-in-Err-clause-step g c = λ attempt ends same waits answers as_is.
     } in
     heard_other_step attempt core digest (Loads (machine_of_staged c.args.staged)) ends was now same waits c.args.answered answers
     c.in-Err.fault c.settle_status.result c.settle_status.ensures (search rules) hears
+
+pub returns-in-Ok-clause-kind : goal.returns-in-Ok-clause-kind
+returns-in-Ok-clause-kind g c = λ D same.
+    kind_compared D c.settle.new.self.core c.args.staged c.compare.result c.settle.new.self.phase
+    (ap (λ (m : MoverState). m.phase) c.in-Ok.ensures.phase) same c.compare.ensures
