@@ -1,5 +1,5 @@
 -- The destination's side of a move, once it has read its channels over new links.
-use Rattle.std.specs.Prelude.{◌≡◌, ℕ, All, List, Result, Ok, Err, map}
+use Rattle.std.specs.Prelude.{◌≡◌, All, List, Result, Ok, Err, map}
 use Rattle.vfm_types.specs.declared.desc.Desc.{Desc}
 use Rattle.vfm_outside.specs.Links.{Told}
 use Rattle.vfm_core.specs.Machines.{machine_in}

@@ -1,13 +1,16 @@
 -- Where a move stands once its links have carried what they can.
-use Rattle.std.specs.Prelude.{◌≡◌, ℕ, false, List, None, option_map}
+use Rattle.std.specs.Prelude.{◌≡◌, ◌≢◌, IfSome, ℕ, false, List, None, option_map}
 use Rattle.vfm_outside.specs.Links.{ToldEnds}
 use Rattle.vfm_outside.specs.Told.{TellsNone}
+use Rattle.vfm_types.specs.declared.desc.Desc.{Desc}
 use Rattle.vfm_types.specs.Machine.{Machine}
 use Rattle.vfm_types.specs.Valid.{IsValid}
 use Rattle.vfm_core.specs.CoreState.{CoreState}
 use Rattle.vfm_core.specs.Machines.{machine_in}
 use Rattle.vfm_dest.specs.StagedCores.{EndsFor, StagedState}
 use Rattle.vfm_dest.specs.Stages.{core_of, digest_of}
+use Rattle.vfm_source.specs.declared.phase.Phase.{Phase}
+use Rattle.vfm_source.specs.declared.phase.Phase.TheVariants as phases
 use Rattle.vfm_source.specs.Moving.{past_in}
 use Rattle.vfm_move.specs.Carried.{own_digest}
 use Rattle.vfm_move.specs.Causes.{Attempt}
@@ -40,3 +43,10 @@ abbrev pub ComesTo : Attempt → CoreState → List ℕ → ToldEnds → Step �
 ComesTo attempt core digest ends (steps.Decided status loaded) =
     IsDecided attempt status (made_so_far core (option_map machine_of_staged loaded)) ends × (owner_at status ≡ WentOn)
 ComesTo attempt core digest ends (steps.Confirmed staged) = IsReadyForGo attempt core digest staged ends
+
+-- What stands in a step is of this description. Where Go may be said the source has settled; else it hasn't said Go, nor given
+-- up.
+abbrev pub IsStepOf : Desc → Phase → Step → Type 0
+IsStepOf D phase (steps.Decided status loaded) =
+    IfSome loaded (λ staged. (core_of staged).desc ≡ D) × (phase ≢ phases.Gone) × (phase ≢ phases.GivenUp)
+IsStepOf D phase (steps.Confirmed staged) = ((core_of staged).desc ≡ D) × (phase ≡ phases.Settled)

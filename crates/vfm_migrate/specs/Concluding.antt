@@ -1,30 +1,19 @@
 -- How a migration is concluded: the source gives up, or the destination took over, and the links go back.
 use Rattle.std.specs.Prelude.{◌≡◌, ◌≢◌, ℕ, List, [], ◌∷◌, Some, IfSome}
-use Rattle.vfm_types.specs.declared.desc.Desc.{Desc}
 use Rattle.vfm_outside.specs.Counts.{Includes}
 use Rattle.vfm_outside.specs.Links.{ToldEnds, ends_faults}
 use Rattle.vfm_outside.specs.Tells.{WiresTell}
 use Rattle.vfm_outside.specs.Told.{with_appended}
 use Rattle.vfm_core.specs.Machines.{machine_in}
-use Rattle.vfm_source.specs.declared.phase.Phase.{Phase}
-use Rattle.vfm_source.specs.declared.phase.Phase.TheVariants as phases
 use Rattle.vfm_source.specs.Moving.{past_in}
 use Rattle.vfm_source.specs.Source.{MoverState, Moves}
 use Rattle.vfm_move.specs.Move.{GoesOn}
-use Rattle.vfm_migrate.specs.declared.step.Step.{Step}
-use Rattle.vfm_migrate.specs.declared.step.Step.TheVariants as steps
 
 -- The source gave up, and went on until every device was RUNNING and idle.
 pub record IsGoneHome (old new : MoverState) : Type 0 where
   pub desc : new.core.desc ≡ old.core.desc
   pub on : GoesOn old.core.desc (past_in old.core) (past_in new.core) (machine_in new.core.world)
   pub moves : Moves (past_in new.core) new
-
--- what a step leaves to be done: the source may give up; or it may say Go
-abbrev pub IsStepOf : Desc → Phase → Step → Type 0
-IsStepOf D phase (steps.Decided status loaded) =
-    IfSome loaded (λ staged. staged.core.desc ≡ D) × (phase ≢ phases.Gone) × (phase ≢ phases.GivenUp)
-IsStepOf D phase (steps.Confirmed staged) = (staged.core.desc ≡ D) × (phase ≡ phases.Settled)
 
 -- the wires were asked for so many channels, and gave links
 pub record HasConnected (channels : ℕ) (before now : WiresTell) : Type 0 where

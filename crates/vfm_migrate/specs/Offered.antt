@@ -1,13 +1,11 @@
 -- The source's side of a move, once it has offered its machine over new links.
-use Rattle.std.specs.Prelude.{◌≡◌, ℕ, ◌<◌, List, length, Option, None, Some, Result, Ok, Err, IfSome, IsTrue, IsFalse, Contains, slice_get}
+use Rattle.std.specs.Prelude.{◌≡◌, ℕ, ◌<◌, List, length, Option, None, Result, Ok, Err, IfSome, IsTrue, IsFalse, Contains, slice_get}
 use Rattle.vfm_types.specs.declared.entry.Entry.TheVariants.{Fail}
 use Rattle.vfm_types.specs.Deliveries.{joint_machine}
 use Rattle.vfm_types.specs.Machine.{Machine}
 use Rattle.vfm_types.specs.Phases.{is_failed}
-use Rattle.vfm_types.specs.Valid.{IsValid}
 use Rattle.vfm_outside.specs.Links.{Told}
-use Rattle.vfm_core.specs.CoreState.{CoreState, IsAfter}
-use Rattle.vfm_control.specs.Frame.{IsDigest}
+use Rattle.vfm_core.specs.CoreState.{CoreState, FitsDesc, IsAfter}
 use Rattle.vfm_order.specs.LookAfter.{is_over}
 use Rattle.vfm_plain.specs.Ended.{is_last_ended}
 use Rattle.vfm_plain.specs.Report.{Made, source_past}
@@ -46,9 +44,8 @@ abbrev pub NoneDue : ℕ → Made → Type 0
 NoneDue abort_after made = 0 < abort_after → IsFalse (has_passed made.desc abort_after (source_past made))
 
 -- it is the digest of the machine at the joint stop
-pub record IsOwnDigest (core : CoreState) (digest : List ℕ) : Type 0 where
-  pub is : digest ≡ state_digest core.desc (joint_machine core.desc (past_in core))
-  pub fits : IsDigest digest
+abbrev pub IsOwnDigest : CoreState → List ℕ → Type 0
+IsOwnDigest core digest = digest ≡ state_digest core.desc (joint_machine core.desc (past_in core))
 
 -- Everything was copied, no arc failed, and no pass had ended after which the source was to give up; and this is its digest.
 pub record IsCopiedWhole (abort_after : ℕ) (core : CoreState) (digest : List ℕ) : Type 0 where
@@ -69,7 +66,7 @@ OfferedFor abort_after core links (Err faults.NoMemory) = Unit {0}
 
 -- A source has offered its machine over new links, and was neither given up nor taken over.
 pub record IsOffered (abort_after : ℕ) (core : CoreState) (links : List Told) (result : Result (List ℕ) OfferFault) : Type 0 where
-  pub valid : IsValid core.desc
+  pub fits : FitsDesc core.desc core.world
   pub run : IsAfter core.desc (past_in core) core.world
   pub going : IsFalse (is_over (past_in core))
   pub channels : length links ≡ core.desc.channels

@@ -1,25 +1,69 @@
-//! STUB of carry.
+//! A move over its links: the source offers, the destination stages and answers, and the source hears that.
 
-ghost use Rattle.std.specs.Prelude.{◌≡◌, IsFalse, length};
+ghost use Rattle.std.specs.Prelude.{◌≡◌, ◌≢◌, IfOk, IsFalse, IsOk, List, length};
+ghost use Rattle.vfm_types.specs.declared.desc.Desc.{Desc as Described};
 ghost use Rattle.vfm_types.specs.Valid.{IsValid};
-ghost use Rattle.vfm_outside.specs.Links.{AreNew};
+ghost use Rattle.vfm_dest.specs.Stages.{core_of};
+ghost use Rattle.vfm_outside.specs.Links.{AreNew, IsNew, Told};
 ghost use Rattle.vfm_order.specs.LookAfter.{is_over};
+ghost use Rattle.vfm_outside.specs.Carried.{told_by};
 ghost use Rattle.vfm_source.specs.declared.phase.Phase.TheVariants as phases;
 ghost use Rattle.vfm_source.specs.Moving.{past_in};
 ghost use Rattle.vfm_source.specs.Source.{Moves};
 ghost use Rattle.vfm_move.specs.Causes.{Attempt};
-ghost use Rattle.vfm_migrate.specs.Carrying.{ComesTo};
-ghost use Rattle.vfm_migrate.specs.Concluding.{IsStepOf};
+ghost use Rattle.vfm_migrate.specs.Answers.{IsAsBefore, ends_of};
+ghost use Rattle.vfm_migrate.specs.Brought.{StagedFor};
+ghost use Rattle.vfm_migrate.specs.Carrying.{ComesTo, IsStepOf};
 ghost use Rattle.vfm_migrate.specs.Links.{tells};
+ghost use Rattle.vfm_migrate.specs.Offered.{IsOffered};
 
-use crate::Step;
+use crate::channels::{offer, stage};
+use crate::control::{answer, offer_status, refuse};
+use crate::step::Step;
 use std::alloc::Global;
+use vfm_dest::{StageFault, Staged};
 use vfm_outside::{Ends, Link};
-use vfm_source::Mover;
-use vfm_status::Status;
+use vfm_source::{Mover, OfferFault};
 use vfm_types::Desc;
 
-/// Carries.
+// Says and hears the destination's answer where the source offered all of its machine; else only a refusal is said.
+fn shake<L: Link>(
+    desc: &Desc,
+    mover: &mut Mover,
+    offered: Result<[u8; 32], OfferFault>,
+    staged: Result<Staged, StageFault>,
+    source: &mut L,
+    dest: &mut L,
+) -> Step
+    requires offered { IsOk offered → mover.old.phase ≡ phases.Offered }
+    requires digest { IfOk offered (λ digest. mover.old.digest ≡ digest) }
+    requires not_gone { mover.old.phase ≢ phases.Gone }
+    requires not_given_up { mover.old.phase ≢ phases.GivenUp }
+    requires desc { mover.old.core.desc ≡ desc.now }
+    requires source { IsNew (told_by L.ended L.failed_out L.failed_in L.sent L.received source.old) }
+    requires dest { IsNew (told_by L.ended L.failed_out L.failed_in L.sent L.received dest.old) }
+    ensures step { (attempt : Attempt) (from to : List Told)
+        → IsOffered attempt.abort_after mover.old.core from offered → StagedFor desc.now to staged
+        → ComesTo attempt mover.old.core mover.old.digest
+        (ends_of from to (told_by L.ended L.failed_out L.failed_in L.sent L.received source.new)
+        (told_by L.ended L.failed_out L.failed_in L.sent L.received dest.new)) result }
+    ensures mover { IsAsBefore mover.old mover.new }
+    ensures kind { (D : Described) → IfOk staged (λ staged. (core_of staged).desc ≡ D) → IsStepOf D mover.new.phase result }
+{
+    match offered {
+        Ok(_) => answer(desc, mover, staged, source, dest),
+        Err(fault) => {
+            refuse(desc, &staged, dest);
+            Step::Decided {
+                status: offer_status(fault),
+                loaded: None,
+            }
+        }
+    }
+}
+
+/// Offers the machine, stages what came, answers, hears the answer, and compares both machines. The links come back in their
+/// order.
 pub(crate) fn carry<L: Link>(
     alloc: Global,
     desc: &Desc,
@@ -46,51 +90,21 @@ pub(crate) fn carry<L: Link>(
         mut dest_control,
         dest,
     } = ends;
-    let (source, offered) = mover.offer(alloc, source, abort_after);
-    let (dest, staged) = vfm_dest::stage(alloc, desc, dest);
-    let step = match offered {
-        Err(fault) => {
-            if staged.is_err() {
-                match vfm_dest::answer(&mut dest_control, desc.session, &staged) {
-                    Ok(()) | Err(_) => (),
-                }
-            }
-            Step::Decided { status: match fault {
-                vfm_source::OfferFault::Link { channel } => Status::LinkFault(vfm_types::LinkPlace::Source(channel)),
-                vfm_source::OfferFault::Aborted { pass } => Status::Aborted { pass },
-                vfm_source::OfferFault::ArcFailed { d, to } => Status::ArcFailed { d, to },
-                vfm_source::OfferFault::NoMemory => Status::NoMemory,
-            }, loaded: None }
-        }
-        Ok(_) => {
-            let answered = vfm_dest::answer(&mut dest_control, desc.session, &staged);
-            match staged {
-                Err(vfm_dest::StageFault::Link { channel }) => Step::Decided { status: Status::LinkFault(vfm_types::LinkPlace::Destination(channel)), loaded: None },
-                Err(vfm_dest::StageFault::NoMemory) => Step::Decided { status: Status::NoMemory, loaded: None },
-                Err(vfm_dest::StageFault::Refusal(why)) => {
-                    if answered.is_err() { Step::Decided { status: Status::LinkFault(vfm_types::LinkPlace::Control), loaded: None } } else {
-                    match mover.settle(&mut source_control) {
-                        Ok(()) => Step::Decided { status: Status::Refused(why), loaded: None },
-                        Err(fault) => Step::Decided { status: settle_status(fault), loaded: None },
-                    } }
-                }
-                Ok(staged) => {
-                    if answered.is_err() { Step::Decided { status: Status::LinkFault(vfm_types::LinkPlace::Control), loaded: None } } else {
-                    match mover.settle(&mut source_control) {
-                        Ok(()) => if mover.core().same(staged.core()) { Step::Confirmed(staged) } else { Step::Decided { status: Status::Differs, loaded: Some(staged) } },
-                        Err(fault) => Step::Decided { status: settle_status(fault), loaded: None },
-                    } }
-                }
-            }
-        }
+    let (source, offered) = offer(alloc, mover, source, abort_after);
+    let (dest, staged) = stage(alloc, desc, dest);
+    let step = shake(
+        desc,
+        mover,
+        offered,
+        staged,
+        &mut source_control,
+        &mut dest_control,
+    );
+    let ends = Ends {
+        source_control,
+        source,
+        dest_control,
+        dest,
     };
-    (Ends { source_control, source, dest_control, dest }, step)
-}
-fn settle_status(fault: vfm_handshake::SettleFault) -> Status {
-    match fault {
-        vfm_handshake::SettleFault::Link => Status::LinkFault(vfm_types::LinkPlace::Control),
-        vfm_handshake::SettleFault::Refused(refusal) => Status::Refused(refusal),
-        vfm_handshake::SettleFault::Unconfirmed { ours, theirs } => Status::Unconfirmed { ours, theirs },
-        vfm_handshake::SettleFault::NoControl(heard) => Status::NoControl(heard),
-    }
+    (ends, step)
 }

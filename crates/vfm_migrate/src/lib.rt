@@ -2,8 +2,10 @@
 #![tactic(auto)]
 
 mod carrying;
+mod channels;
 mod committing;
 mod concluding;
+mod control;
 mod migration;
 mod step;
 

@@ -4,8 +4,7 @@ use Rattle.std.proofs.lemmas.List.{length-map}
 use Rattle.vfm_outside.specs.Tells.{wires_tell}
 use Rattle.vfm_core.specs.CoreState.{CoreState}
 use Rattle.vfm_source.specs.Source.{MoverState}
-use Rattle.vfm_migrate.specs.Carrying.{ComesTo}
-use Rattle.vfm_migrate.specs.Concluding.{IsStepOf}
+use Rattle.vfm_migrate.specs.Carrying.{ComesTo, IsStepOf}
 use Rattle.vfm_migrate.specs.Links.{tells}
 use Rattle.vfm_migrate.specs.Migrations.{IsMigrated, attempt_of}
 use Rattle.vfm_migrate.specs.declared.migration.Migration.{Migration}
