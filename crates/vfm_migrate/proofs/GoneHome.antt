@@ -1,14 +1,9 @@
 -- A source that gave up, and went on until every device was RUNNING and idle.
-use Rattle.std.proofs.Common.{◌≡◌, List, [], ◌∷◌, ◌++◌, reverse, None, refl, sym, ◌∙◌, ap, subst}
-use Rattle.std.proofs.lemmas.List.{append_assoc, reverse-append, reverse-reverse}
-use Rattle.vfm_types.specs.declared.desc.Desc.{Desc}
+use Rattle.std.proofs.Common.{◌≡◌, List, [], ◌∷◌, ◌++◌, reverse, None, sym, ◌∙◌, ap}
+use Rattle.std.proofs.lemmas.List.{reverse-append, reverse-reverse}
 use Rattle.vfm_types.specs.declared.entry.Entry.{Entry}
 use Rattle.vfm_types.specs.declared.entry.Entry.TheVariants.{Abort}
-use Rattle.vfm_types.specs.Deliveries.{machine_of}
-use Rattle.vfm_plain.specs.Ended.{went_on}
-use Rattle.vfm_plain.specs.Legal.{IsLegal}
-use Rattle.vfm_core.specs.CoreState.{FitsDesc, IsAfter}
-use Rattle.vfm_core.specs.Machines.{machine_in}
+use Rattle.vfm_core.specs.CoreState.{FitsDesc}
 use Rattle.vfm_drive.specs.Endings.{HasGivenUp}
 use Rattle.vfm_source.specs.Moving.{past_in}
 use Rattle.vfm_source.specs.Source.{MoverState, Moves}

@@ -1,16 +1,12 @@
 -- What a migration came to, once its source gave up or the destination took over.
-use Rattle.std.proofs.Common.{◌≡◌, ℕ, List, [], ◌∷◌, length, reverse, Option, Some, None, IfSome, Result, Ok, Err, refl, sym, ◌∙◌, ap, subst, inr}
-use Rattle.std.specs.Prelude.{option_map, if◌then◌else◌}
+use Rattle.std.proofs.Common.{◌≡◌, List, [], ◌∷◌, length, Option, Some, None, IfSome, Result, Ok, Err, refl, sym, ◌∙◌, ap, subst, inr}
+use Rattle.std.specs.Prelude.{option_map}
 use Rattle.std.proofs.lemmas.List.{reverse-reverse}
 use Rattle.vfm_types.specs.declared.desc.Desc.{Desc}
 use Rattle.vfm_types.specs.declared.entry.Entry.{Entry}
 use Rattle.vfm_types.specs.declared.fault.LinkPlace.TheVariants.{Connect}
-use Rattle.vfm_types.specs.Deliveries.{joint_machine}
-use Rattle.vfm_types.specs.Machine.{Machine}
-use Rattle.vfm_types.specs.Phases.{is_joint}
 use Rattle.vfm_types.specs.Valid.{IsValid}
-use Rattle.vfm_outside.specs.Counts.{Includes, Rose}
-use Rattle.vfm_outside.specs.Links.{ToldEnds, ends_faults}
+use Rattle.vfm_outside.specs.Links.{ToldEnds}
 use Rattle.vfm_outside.specs.Tells.{WiresTell}
 use Rattle.vfm_outside.specs.Told.{with_appended, with_appended-nil}
 use Rattle.vfm_plain.specs.Report.{Made}
@@ -23,11 +19,11 @@ use Rattle.vfm_status.specs.declared.status.Status.{Status}
 use Rattle.vfm_status.specs.declared.status.Doubt.{Doubt}
 use Rattle.vfm_status.specs.declared.status.Status.TheVariants.{InDoubt, LinkFault, Moved, NoMemory}
 use Rattle.vfm_move_laws.specs.Copies.{KeepsCopies}
-use Rattle.vfm_move.specs.Contact.{Contact, Failed, Linked, Untouched}
+use Rattle.vfm_move.specs.Contact.{Failed, Linked, Untouched}
 use Rattle.vfm_move.specs.Table.{Owner, WentOn, owner_at}
 use Rattle.vfm_move.specs.Causes.{Attempt, HasCause, IsExplained}
-use Rattle.vfm_move.specs.Move.{GoesOn, HasEnded, IsDecided, IsMoveOf, WiresDid, asked_by, came_to, gone_on, joint_in}
-use Rattle.vfm_move.specs.Answered.{gone_alone, nothing_made, without_links}
+use Rattle.vfm_move.specs.Move.{GoesOn, HasEnded, IsDecided, IsMoveOf, WiresDid, came_to, gone_on, joint_in}
+use Rattle.vfm_move.specs.Answered.{gone_alone, without_links}
 use Rattle.vfm_move.proofs.Cases.{to_memory}
 use Rattle.vfm_move.proofs.Ended.{failed_wires_explain, failed_wires_move, is_explained, is_move, no_memory_explains, no_memory_moves}
 use Rattle.vfm_move.proofs.GivenUp.{ended, kept}

@@ -1,5 +1,5 @@
 -- Go that was said, and heard, or not.
-use Rattle.std.proofs.Common.{◌≡◌, ℕ, ◌<◌, false, List, [], ◌∷◌, ◌++◌, length, take, drop, reverse, Option, None, Some, IfSome, Result, Ok, Err, refl, sym, ◌∙◌, ap, subst, arith}
+use Rattle.std.proofs.Common.{◌≡◌, ℕ, ◌<◌, false, List, [], length, take, drop, Option, None, Some, IfSome, Result, Ok, Err, refl, sym, ◌∙◌, ap, subst, arith}
 use Rattle.std.specs.Prelude.{IfOk, ⊤}
 use Rattle.std.proofs.lemmas.List.{take-append-drop}
 use Rattle.vfm_types.specs.declared.desc.Desc.{Desc}
@@ -8,7 +8,6 @@ use Rattle.vfm_types.specs.declared.fault.LinkFault.{LinkFault as NotSent}
 use Rattle.vfm_outside.specs.Counts.{Rose}
 use Rattle.vfm_outside.specs.Links.{Told, ToldEnds}
 use Rattle.vfm_outside.specs.Told.{TellsNone, with_appended, with_appended-nil}
-use Rattle.vfm_plain.specs.Report.{Made}
 use Rattle.vfm_control.specs.declared.frame.Frame.TheVariants.{Go}
 use Rattle.vfm_control.specs.Frame.{frame_bytes}
 use Rattle.vfm_core.specs.CoreState.{CoreState}
@@ -22,13 +21,12 @@ use Rattle.vfm_handshake.specs.Control.{AnswersTo, TakenBy}
 use Rattle.vfm_source.specs.Moving.{past_in}
 use Rattle.vfm_status.specs.declared.status.Doubt.{Doubt}
 use Rattle.vfm_status.specs.declared.status.Doubt.TheVariants as doubts
-use Rattle.vfm_status.specs.declared.status.Status.{Status}
 use Rattle.vfm_status.specs.declared.status.Status.TheVariants.{InDoubt, Moved}
 use Rattle.vfm_move.specs.Table.{FrontOfGo, GoSent, WholeGo}
-use Rattle.vfm_move.specs.Carried.{HasSaidGo, own_digest}
+use Rattle.vfm_move.specs.Carried.{HasSaidGo}
 use Rattle.vfm_move.specs.Causes.{Attempt}
-use Rattle.vfm_move.specs.Move.{HasEnded, IsConfirmed, IsDecided, IsHalfway, IsUnheard}
-use Rattle.vfm_move.specs.Answered.{HasHeardGo, SaidOfGo, taken_over}
+use Rattle.vfm_move.specs.Move.{HasEnded, IsConfirmed, IsHalfway, IsUnheard}
+use Rattle.vfm_move.specs.Answered.{HasHeardGo}
 use Rattle.vfm_move.proofs.Brought.{cut_unheard, new_received}
 use Rattle.vfm_move.proofs.Confirmed.{go_failed, go_unread}
 use Rattle.vfm_move.proofs.Ended.{left_in_doubt}
@@ -81,7 +79,7 @@ not_sent attempt core digest staged ends s t d fault ready says =
       is = sym (take-append-drop count (go_of core digest) ∙ ap (go_of core) ready.own);
     } in
     let confirmed = said FrontOfGo attempt core digest staged ends s t d d (take count (go_of core digest)) [] ready says.sent.sent says.received
-        (sym (with_appended-nil d.received)) refl front in
+    (sym (with_appended-nil d.received)) refl front in
     left_in_doubt attempt doubts.Send made (with_controls t d ends) ready.valid refl refl
     (go_failed attempt made (with_controls t d ends) confirmed (half doubts.Send core) (quiet d ready.unheard ready.still_open)
     (rose_new s.failed_out t.failed_out ready.sound_out says.failed))
@@ -154,13 +152,12 @@ committed attempt core digest staged ends s t d e (Err (going.Other ours theirs)
     (half (doubts.Other ours theirs) core)
     (heard_go attempt core digest staged ends s t d e (Err (going.Other ours theirs)) ready hears.takes))
 committed attempt core digest staged ends s t d e (Ok taken) ready says hears over =
-    let made = made_so_far core None in
-    (
+    let made = made_so_far core None in (
       over_as attempt core taken (with_controls t e ends) _ over.journal
-      (went_over attempt made (with_controls t e ends) over.more (machine_in taken.world) ready.valid
-      (whole attempt core digest staged ends s t d e hears.takes.bytes ready says hears.takes.heard.came hears.sent)
-      (record { joint = refl; loaded = refl })
-      (heard_go attempt core digest staged ends s t d e (Ok tt) ready hears.takes)
-      (rw (← ready.desc) over.over)),
+          (went_over attempt made (with_controls t e ends) over.more (machine_in taken.world) ready.valid
+          (whole attempt core digest staged ends s t d e hears.takes.bytes ready says hears.takes.heard.came hears.sent)
+          (record { joint = refl; loaded = refl })
+          (heard_go attempt core digest staged ends s t d e (Ok tt) ready hears.takes)
+          (rw (← ready.desc) over.over)),
       over.desc ∙ ready.desc,
     )

@@ -1,5 +1,5 @@
 -- How a migration is concluded: the source gives up, or the destination took over, and the links go back.
-use Rattle.std.specs.Prelude.{◌≡◌, ◌≢◌, ℕ, List, [], ◌∷◌, Some, IfSome}
+use Rattle.std.specs.Prelude.{◌≡◌, ℕ, [], ◌∷◌, Some}
 use Rattle.vfm_outside.specs.Counts.{Includes}
 use Rattle.vfm_outside.specs.Links.{ToldEnds, ends_faults}
 use Rattle.vfm_outside.specs.Tells.{WiresTell}

@@ -1,5 +1,5 @@
 -- What a migration begins with, and what it comes to.
-use Rattle.std.specs.Prelude.{◌≡◌, [], Option, Some, None, Result, Ok, Err}
+use Rattle.std.specs.Prelude.{◌≡◌, [], Some, None, Result, Ok, Err}
 use Rattle.vfm_types.specs.declared.desc.Desc.{Desc}
 use Rattle.vfm_core.specs.CoreState.{CoreState, first_core}
 use Rattle.vfm_source.specs.declared.phase.Phase.TheVariants.{Fresh}

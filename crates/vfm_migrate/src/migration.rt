@@ -44,12 +44,7 @@ pub struct Migration {
 /// has ended (0 is never), the source gives up and runs the machine to its end itself. Where Go was begun and the destination
 /// didn't take over, neither runs on. `wires` are asked for links once at most, and get them back. Memory is taken before Go
 /// alone: from there on, and to give up, none is.
-pub fn migrate<W: Wires>(
-    alloc: Global,
-    desc: Desc,
-    wires: &mut W,
-    abort_after: u32,
-) -> Migration
+pub fn migrate<W: Wires>(alloc: Global, desc: Desc, wires: &mut W, abort_after: u32) -> Migration
     requires { IsValid desc }
     ensures { IsMigrated (attempt_of abort_after (wires_tell (W.asked wires.old) (W.carried wires.old) (W.faults wires.old))
         (wires_tell (W.asked wires.new) (W.carried wires.new) (W.faults wires.new))) desc result }

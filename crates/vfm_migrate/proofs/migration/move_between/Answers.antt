@@ -16,8 +16,8 @@ returns-in-Err-Failed g c =
     let failed = c.in-Err-Failed.ensures in
     let is = ap Err c.in-Err-Failed.field-0-is in
     let attempt = attempt_of c.args.abort_after
-        (wires_tell (g.W.Wires.asked c.args.wires.now) (g.W.Wires.carried c.args.wires.now) (g.W.Wires.faults c.args.wires.now))
-        (wires_tell (g.W.Wires.asked c.connect.new.self) (g.W.Wires.carried c.connect.new.self) (g.W.Wires.faults c.connect.new.self)) in
+    (wires_tell (g.W.Wires.asked c.args.wires.now) (g.W.Wires.carried c.args.wires.now) (g.W.Wires.faults c.args.wires.now))
+    (wires_tell (g.W.Wires.asked c.connect.new.self) (g.W.Wires.carried c.connect.new.self) (g.W.Wires.faults c.connect.new.self)) in
     subst (λ (migration : Migration). IsMigrated attempt c.args.desc.now migration) (sym c.alone.ensures.is)
     (not_connected attempt c.args.desc.now c.args.mover c.alone.ensures.new c.requires.valid c.requires.first.core c.alone.ensures.home
     (failed.carried, failed.failed is) (failed.asked (λ other. cc)))

@@ -23,7 +23,7 @@ returns-in-Decided g c = λ before connected.
     let home = c.go_home.ensures in
     let ends = tells g.W.L.Link.ended g.W.L.Link.failed_out g.W.L.Link.failed_in g.W.L.Link.sent g.W.L.Link.received carry.result.0 in
     let attempt = attempt_of c.args.abort_after before
-        (wires_tell (g.W.Wires.asked c.back.new.self) (g.W.Wires.carried c.back.new.self) (g.W.Wires.faults c.back.new.self)) in
+    (wires_tell (g.W.Wires.asked c.back.new.self) (g.W.Wires.carried c.back.new.self) (g.W.Wires.faults c.back.new.self)) in
     let comes = subst (λ (step : Step). ComesTo attempt old.core old.digest ends step) c.in-Decided.is (carry.ensures.comes_to attempt refl) in
     let left = subst (λ (step : Step). IsStepOf D old.phase step) c.in-Decided.is carry.ensures.step in
     migrated attempt D status new loaded None ends _ c.requires.valid
@@ -43,7 +43,7 @@ returns-in-Confirmed g c = λ before connected.
     let now = tells g.W.L.Link.ended g.W.L.Link.failed_out g.W.L.Link.failed_in g.W.L.Link.sent g.W.L.Link.received committed.result.0 in
     let back = c.back-in-Confirmed in
     let attempt = attempt_of c.args.abort_after before
-        (wires_tell (g.W.Wires.asked back.new.self) (g.W.Wires.carried back.new.self) (g.W.Wires.faults back.new.self)) in
+    (wires_tell (g.W.Wires.asked back.new.self) (g.W.Wires.carried back.new.self) (g.W.Wires.faults back.new.self)) in
     let comes = subst (λ (step : Step). ComesTo attempt old.core old.digest ends step) c.in-Confirmed.is (carry.ensures.comes_to attempt refl) in
     let core : committed.new.mover.core ≡ old.core = ap (λ (mover : MoverState). mover.core) committed.ensures.mover in
     let joint : committed.new.mover.joint ≡ old.joint = ap (λ (mover : MoverState). mover.joint) committed.ensures.mover in
