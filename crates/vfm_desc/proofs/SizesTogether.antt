@@ -1,5 +1,5 @@
 -- Sizes that no device may have together.
-use Rattle.std.proofs.Common.{◌≡◌, ℕ, ◌+◌, ◌<◌, ◌≤◌, ◌^◌, ◌&&◌, Bool, true, false, nat_le, List, length, refl, IsTrue, leb-true, arith}
+use Rattle.std.proofs.Common.{◌≡◌, ℕ, ◌<◌, ◌≤◌, ◌^◌, ◌&&◌, Bool, true, false, nat_le, List, length, refl, IsTrue, leb-true, arith}
 use Rattle.std.specs.Prelude.{◌↔◌, Option, Some, None, IsSome, sum}
 use Rattle.std.specs.List.{list_all}
 use Rattle.std.proofs.lemmas.Bool.{and_parts, false≢true}

@@ -1,5 +1,4 @@
 use Rattle.std.proofs.lemmas.Result.{err_from_is_err_and}
-use Rattle.std.proofs.Common.{ℕ, arith}
 use Rattle.serde_json.specs.View.{view}
 use Rattle.vfm_types.specs.declared.fault.FieldName.TheVariants.{Bar}
 use Rattle.vfm_types.specs.Ranges.{takes}
