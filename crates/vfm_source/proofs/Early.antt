@@ -30,7 +30,7 @@ use Rattle.vfm_source.proofs.Moves.{past_more}
 -- it wants that
 abbrev is_fail : Want → Bool
 is_fail (Do (Fail d to)) = true
-is_fail want = false
+is_fail other = false
 
 do_for_others : (entry : ℕ → Entry) (o : Option ℕ) (other : Want) → ((d : ℕ) → is_fail (Do (entry d)) ≡ false)
     → is_fail other ≡ false
