@@ -52,7 +52,8 @@ use Rattle.vfm_migrate.proofs.Offers.{none_failed}
 
 -- ---- what the channels carried, where their links tell
 
-line_sent : (P : List ℕ → Type 0) (lines : List Line) (k : ℕ) → IfSome (slice_get (map told_line lines) k) (λ link. IfSome link.sent P)
+line_sent : (P : List ℕ → Type 0) (lines : List Line) (k : ℕ)
+    → IfSome (slice_get (map told_line lines) k) (λ link. IfSome link.sent P)
     → IfSome (slice_get lines k) (λ line. P line.sent)
 line_sent P [] k is = tt
 line_sent P (line ∷ lines) zero is = is
@@ -74,7 +75,8 @@ pub unheard_new : (link : Told) → IsNew link → IsUnheard link
 unheard_new link new = record { received = none_short link.received new.received; ended = new.ended }
 
 pub unheard_nothing : (link : Told) → HeardNothing link → IsUnheard link
-unheard_nothing link nothing = record { received = none_short link.received nothing.received; ended = nothing.still_open }
+unheard_nothing link nothing = record
+    { received = none_short link.received nothing.received; ended = nothing.still_open }
 
 -- ---- the source
 
@@ -99,9 +101,12 @@ module _ (attempt : Attempt) (core : CoreState) (ends : ToldEnds) where
       }
 
   -- no answer was heard
-  unanswered : (status : Status) (result : Result (List ℕ) OfferFault) → IsOffered attempt.abort_after core ends.source result
-      → is_some made.loaded ≡ (parts_at status false).loaded → IsUnheard ends.source_control → IsUnheard ends.dest_control
-      → TellsNone ends.source_control.sent → WhereTold (Linked ends) (ChannelsCarry (channels_at status) made) → IsUnanswered status made ends
+  unanswered : (status : Status) (result : Result (List ℕ) OfferFault)
+      → IsOffered attempt.abort_after core ends.source result
+      → is_some made.loaded ≡ (parts_at status false).loaded → IsUnheard ends.source_control
+      → IsUnheard ends.dest_control
+      → TellsNone ends.source_control.sent → WhereTold (Linked ends) (ChannelsCarry (channels_at status) made)
+      → IsUnanswered status made ends
   unanswered status result offered half source dest unsaid sent =
       record {
         stands = stands result offered;
@@ -111,25 +116,30 @@ module _ (attempt : Attempt) (core : CoreState) (ends : ToldEnds) where
       }
 
   -- what is due after a pass is what was asked for
-  undue : (loaded : Option Machine) → NoneDue attempt.abort_after made → (pass : ℕ) → IsAbortDue attempt pass (made_so_far core loaded) → ⊥
+  undue : (loaded : Option Machine) → NoneDue attempt.abort_after made → (pass : ℕ)
+      → IsAbortDue attempt pass (made_so_far core loaded) → ⊥
   undue loaded none pass due =
       true≢false (sym due.passed ∙ subst (λ (n : ℕ). 0 < n → IsFalse (has_passed D n past)) due.asked none due.some)
 
   -- an offer that failed
-  pub offer_failed : (fault : OfferFault) → IsOffered attempt.abort_after core ends.source (Err fault) → IsNew ends.source_control
+  pub offer_failed : (fault : OfferFault) → IsOffered attempt.abort_after core ends.source (Err fault)
+      → IsNew ends.source_control
       → IsUnheard ends.dest_control → IsDecided attempt (status_of_offer fault) made ends
   offer_failed (faults.Link k) offered new dest =
       un.source_failed attempt made ends k
-      (unanswered (LinkFault (Source k)) (Err (faults.Link k)) offered refl (unheard_new ends.source_control new) dest new.sent
+      (unanswered (LinkFault (Source k)) (Err (faults.Link k)) offered refl (unheard_new ends.source_control new) dest
+      new.sent
       (carry_where_told Front made ends offered.sent)) offered.why.0 offered.why.1
   offer_failed (faults.Aborted pass) offered new dest =
       un.pass_ended attempt made ends pass
-      (unanswered (Aborted pass) (Err (faults.Aborted pass)) offered refl (unheard_new ends.source_control new) dest new.sent
+      (unanswered (Aborted pass) (Err (faults.Aborted pass)) offered refl (unheard_new ends.source_control new) dest
+      new.sent
       (carry_where_told Front made ends offered.sent)) offered.why.0
       (record { asked = offered.why.1; some = offered.why.2; passed = offered.why.3 })
   offer_failed (faults.ArcFailed d to) offered new dest =
       un.arc_failed attempt made ends d to offered.fits.valid
-      (unanswered (ArcFailed d to) (Err (faults.ArcFailed d to)) offered refl (unheard_new ends.source_control new) dest new.sent
+      (unanswered (ArcFailed d to) (Err (faults.ArcFailed d to)) offered refl (unheard_new ends.source_control new)
+      dest new.sent
       (carry_where_told Front made ends offered.sent)) offered.why.0 (undue None offered.why.1)
   offer_failed faults.NoMemory offered new dest =
       un.memory_wanting attempt made ends
@@ -151,14 +161,16 @@ module _ (attempt : Attempt) (core : CoreState) (ends : ToldEnds) where
 
     front : WhereTold (Linked ends) (ChannelsCarry Front made)
     front lines told k =
-        if_some (slice_get lines.source k) (λ (line : Line). HasSent Whole made k line.sent) (λ (line : Line). HasSent Front made k line.sent)
+        if_some (slice_get lines.source k) (λ (line : Line). HasSent Whole made k line.sent)
+        (λ (line : Line). HasSent Front made k line.sent)
         (λ line all. whole_front made k line.sent all) (whole lines told k)
 
     pub dest_failed : (k : ℕ) → IsNew ends.source_control → IsUnheard ends.dest_control → FailedIn ends.dest k
         → IsDecided attempt (LinkFault (Destination k)) made ends
     dest_failed k new dest failed =
         un.dest_failed attempt made ends k
-        (unanswered (LinkFault (Destination k)) (Ok digest) offered refl (unheard_new ends.source_control new) dest new.sent whole) (unhindered None) failed
+        (unanswered (LinkFault (Destination k)) (Ok digest) offered refl (unheard_new ends.source_control new) dest
+        new.sent whole) (unhindered None) failed
 
     pub memory_wanting : IsNew ends.source_control → IsUnheard ends.dest_control → IsDecided attempt NoMemory made ends
     memory_wanting new dest =
@@ -169,7 +181,8 @@ module _ (attempt : Attempt) (core : CoreState) (ends : ToldEnds) where
         → IsDecided attempt (LinkFault Control) made ends
     answer_failed new dest rose =
         un.answer_failed attempt made ends
-        (unanswered (LinkFault Control) (Ok digest) offered refl (unheard_new ends.source_control new) dest new.sent whole) (unhindered None) rose new.failed_in
+        (unanswered (LinkFault Control) (Ok digest) offered refl (unheard_new ends.source_control new) dest new.sent
+        whole) (unhindered None) rose new.failed_in
 
     -- the joint stop was reached
     pub joined : is_joint past ≡ true
@@ -196,13 +209,15 @@ module _ (attempt : Attempt) (core : CoreState) (ends : ToldEnds) where
         → WhereTold (Linked ends) (HasAnswered (made_so_far core loaded))
     answered loaded v has lines told =
         let same = linked_once ends (told_lines lines) told in
-        let is = has lines.dest lines.dest_control (ap (λ (e : ToldEnds). e.dest) same) (ap (λ (e : ToldEnds). e.dest_control) same) in
+        let is = has lines.dest lines.dest_control (ap (λ (e : ToldEnds). e.dest) same)
+        (ap (λ (e : ToldEnds). e.dest_control) same) in
         record {
           read_out = is.brought.read_out;
           answered = is.sent ∙ ap (λ (w : Verdict). frame_bytes (verdict_frame D w)) (sym is.brought.verdict);
         }
 
-    is_answered : (loaded : Option Machine) (status : Status) (v : Verdict) → is_some loaded ≡ (parts_at status false).loaded
+    is_answered : (loaded : Option Machine) (status : Status) (v : Verdict)
+        → is_some loaded ≡ (parts_at status false).loaded
         → TellsNone ends.source_control.sent → HeardNothing ends.dest_control → HasAnsweredBy D v ends
         → IsAnswered status attempt (made_so_far core loaded) ends
     is_answered loaded status v half unsaid nothing has =
@@ -219,7 +234,8 @@ module _ (attempt : Attempt) (core : CoreState) (ends : ToldEnds) where
         }
 
     -- the source heard some bytes, and settles so to them
-    has_settled : (loaded : Option Machine) (before : Told) (r : Result (Unit {0}) SettleFault) → TellsNone before.received
+    has_settled : (loaded : Option Machine) (before : Told) (r : Result (Unit {0}) SettleFault)
+        → TellsNone before.received
         → AnswersTo (receipt before ends.source_control) (λ bytes. SettledBy D.session digest bytes r)
         → HasSettled (made_so_far core loaded) ends r
     has_settled loaded before r none answers =
@@ -237,8 +253,10 @@ module _ (attempt : Attempt) (core : CoreState) (ends : ToldEnds) where
 -- ---- the answer was heard, or another thing
 
 -- a core with the machine of a list that was copied to its end
-ends_for_of : (staged : CoreState) (D : Desc) (past : List Entry) → staged.desc ≡ D → IsLegal D past → IsTrue (is_last_ended D past)
-    → IsFalse (is_aborted past) → IsFalse (is_resumed past) → IsFalse (is_failed past) → machine_of D past ≡ machine_in staged.world
+ends_for_of : (staged : CoreState) (D : Desc) (past : List Entry) → staged.desc ≡ D → IsLegal D past
+    → IsTrue (is_last_ended D past)
+    → IsFalse (is_aborted past) → IsFalse (is_resumed past) → IsFalse (is_failed past)
+    → machine_of D past ≡ machine_in staged.world
     → EndsFor staged past
 ends_for_of staged D past same legal ended not_aborted not_resumed not_failed machine =
     record {
@@ -255,7 +273,8 @@ module _ (attempt : Attempt) (core : CoreState) (digest : List ℕ) (v : Verdict
   abbrev later : ToldEnds
   later = with_source now ends
 
-  unsaid : (r : Result (Unit {0}) SettleFault) → HearsAnswer core.desc.session digest ends.source_control now r → TellsNone now.sent
+  unsaid : (r : Result (Unit {0}) SettleFault) → HearsAnswer core.desc.session digest ends.source_control now r
+      → TellsNone now.sent
   unsaid r hears = subst TellsNone (sym hears.sent) waits.source.sent
 
   -- the source didn't hear its own digest
@@ -265,59 +284,75 @@ module _ (attempt : Attempt) (core : CoreState) (digest : List ℕ) (v : Verdict
       let cut = hears.settles.cut in
       un.answer_unheard attempt (made_so_far core None) later
       (unanswered attempt core later (LinkFault Control) (Ok digest) waits.offered refl
-      (cut_unheard ends.source_control.received now hears.settles.bytes waits.source.received cut.came cut.few (cut.ended ∙ waits.source.ended))
-      (unheard_nothing ends.dest_control waits.dest) (unsaid (Err settling.Link) hears) (whole attempt core later digest waits.offered))
+      (cut_unheard ends.source_control.received now hears.settles.bytes waits.source.received cut.came cut.few
+      (cut.ended ∙ waits.source.ended))
+      (unheard_nothing ends.dest_control waits.dest) (unsaid (Err settling.Link) hears)
+      (whole attempt core later digest waits.offered))
       (unhindered attempt core later digest waits.offered None)
       (subst (λ (n : ℕ). Rose n now.failed_in) waits.source.failed_in (hears.fault refl))
       (answered attempt core later digest waits.offered None v has)
   heard_fault (settling.Refused why) hears =
       refusal_heard attempt (made_so_far core None) later why
-      (is_answered attempt core later digest waits.offered None (Refused why) v refl (unsaid (Err (settling.Refused why)) hears) waits.dest has)
-      (has_settled attempt core later digest waits.offered None ends.source_control (Err (settling.Refused why)) waits.source.received hears.settles)
+      (is_answered attempt core later digest waits.offered None (Refused why) v refl
+      (unsaid (Err (settling.Refused why)) hears) waits.dest has)
+      (has_settled attempt core later digest waits.offered None ends.source_control (Err (settling.Refused why))
+      waits.source.received hears.settles)
   heard_fault (settling.Unconfirmed ours theirs) hears =
       other_heard attempt (made_so_far core None) later ours theirs
       (is_answered attempt core later digest waits.offered None (Unconfirmed ours theirs) v refl
       (unsaid (Err (settling.Unconfirmed ours theirs)) hears) waits.dest has)
-      (has_settled attempt core later digest waits.offered None ends.source_control (Err (settling.Unconfirmed ours theirs)) waits.source.received
+      (has_settled attempt core later digest waits.offered None ends.source_control
+      (Err (settling.Unconfirmed ours theirs)) waits.source.received
       hears.settles)
   heard_fault (settling.NoControl bytes) hears =
       no_answer_heard attempt (made_so_far core None) later bytes
-      (is_answered attempt core later digest waits.offered None (NoControl bytes) v refl (unsaid (Err (settling.NoControl bytes)) hears) waits.dest has)
-      (has_settled attempt core later digest waits.offered None ends.source_control (Err (settling.NoControl bytes)) waits.source.received
+      (is_answered attempt core later digest waits.offered None (NoControl bytes) v refl
+      (unsaid (Err (settling.NoControl bytes)) hears) waits.dest has)
+      (has_settled attempt core later digest waits.offered None ends.source_control (Err (settling.NoControl bytes))
+      waits.source.received
       hears.settles)
 
   -- it did
   settled : (loaded : Option Machine) → HearsAnswer core.desc.session digest ends.source_control now (Ok tt)
       → HasSettled (made_so_far core loaded) later (Ok tt)
   settled loaded hears =
-      has_settled attempt core later digest waits.offered loaded ends.source_control (Ok tt) waits.source.received hears.settles
+      has_settled attempt core later digest waits.offered loaded ends.source_control (Ok tt) waits.source.received
+      hears.settles
 
   -- this is the verdict on what came, where the links tell
-  verdict_is : (loaded : Option Machine) → WhereTold (Linked later) (λ lines. verdict_of (made_so_far core loaded) lines ≡ v)
+  verdict_is : (loaded : Option Machine)
+      → WhereTold (Linked later) (λ lines. verdict_of (made_so_far core loaded) lines ≡ v)
   verdict_is loaded lines told =
       let same = linked_once later (told_lines lines) told in
-      (has lines.dest lines.dest_control (ap (λ (e : ToldEnds). e.dest) same) (ap (λ (e : ToldEnds). e.dest_control) same)).brought.verdict
+      (has lines.dest lines.dest_control (ap (λ (e : ToldEnds). e.dest) same)
+      (ap (λ (e : ToldEnds). e.dest_control) same)).brought.verdict
 
   -- though the destination refused
-  pub heard_own_refused : (why : Refusal) → v ≡ Refuses why → HearsAnswer core.desc.session digest ends.source_control now (Ok tt)
+  pub heard_own_refused : (why : Refusal) → v ≡ Refuses why
+      → HearsAnswer core.desc.session digest ends.source_control now (Ok tt)
       → IsDecided attempt (Refused why) (made_so_far core None) later
   heard_own_refused why refuses hears =
       refusal_unheeded attempt (made_so_far core None) later why
-      (is_answered attempt core later digest waits.offered None (Refused why) v refl (unsaid (Ok tt) hears) waits.dest has) (settled None hears)
+      (is_answered attempt core later digest waits.offered None (Refused why) v refl (unsaid (Ok tt) hears) waits.dest
+      has) (settled None hears)
       (λ lines told. verdict_is None lines told ∙ refuses)
 
   -- and another machine was staged
   pub heard_own_differs : (m : Machine) → v ≡ Loads m → m ≢ machine_in core.world
-      → HearsAnswer core.desc.session digest ends.source_control now (Ok tt) → IsDecided attempt Differs (made_so_far core (Some m)) later
+      → HearsAnswer core.desc.session digest ends.source_control now (Ok tt)
+      → IsDecided attempt Differs (made_so_far core (Some m)) later
   heard_own_differs m loads other hears =
       machines_differ attempt (made_so_far core (Some m)) later
-      (is_answered attempt core later digest waits.offered (Some m) Differs v refl (unsaid (Ok tt) hears) waits.dest has) (settled (Some m) hears)
-      (subst (λ (o : Option Machine). IsSomeAnd o (λ joint. m ≢ joint)) (sym (joint_is attempt core later digest waits.offered))
+      (is_answered attempt core later digest waits.offered (Some m) Differs v refl (unsaid (Ok tt) hears) waits.dest
+      has) (settled (Some m) hears)
+      (subst (λ (o : Option Machine). IsSomeAnd o (λ joint. m ≢ joint))
+      (sym (joint_is attempt core later digest waits.offered))
       (λ same. other (same ∙ sym (machine_is attempt core later digest waits.offered))))
       (λ lines told. verdict_is (Some m) lines told ∙ loads)
 
   -- and its own machine was staged
-  pub heard_own_staged : (staged : StagedState) → v ≡ Loads (machine_of_staged staged) → machine_in core.world ≡ machine_of_staged staged
+  pub heard_own_staged : (staged : StagedState) → v ≡ Loads (machine_of_staged staged)
+      → machine_in core.world ≡ machine_of_staged staged
       → StagedAs core.desc staged → HearsAnswer core.desc.session digest ends.source_control now (Ok tt)
       → IsReadyForGo attempt core digest staged later
   heard_own_staged staged loads same as_is hears =
@@ -329,9 +364,11 @@ module _ (attempt : Attempt) (core : CoreState) (digest : List ℕ) (v : Verdict
       record {
         confirmed =
             own_confirmed (LinkFault Control) attempt (made_so_far core None) later
-            (is_answered attempt core later digest offered None (LinkFault Control) v refl (unsaid (Ok tt) hears) waits.dest has) (settled None hears)
+            (is_answered attempt core later digest offered None (LinkFault Control) v refl (unsaid (Ok tt) hears)
+            waits.dest has) (settled None hears)
             (λ lines told.
-            subst (λ (o : Option Machine). IsSomeAnd o (λ m. verdict_of (made_so_far core None) lines ≡ Loads m)) (sym joint)
+            subst (λ (o : Option Machine). IsSomeAnd o (λ m. verdict_of (made_so_far core None) lines ≡ Loads m))
+            (sym joint)
             (verdict_is None lines told ∙ loads ∙ ap Loads (sym same ∙ machine)));
         valid = offered.fits.valid;
         own = own;
@@ -340,7 +377,8 @@ module _ (attempt : Attempt) (core : CoreState) (digest : List ℕ) (v : Verdict
             ∙ sym (ap (λ (o : Option Machine). unwrap_or (option_map (state_digest core.desc) o) []) joint);
         desc = as_is.desc;
         ends_for =
-            ends_for_of (core_of staged) core.desc (past_in core) as_is.desc offered.run.legal offered.why.copied open_.0 open_.1 offered.why.unfailed
+            ends_for_of (core_of staged) core.desc (past_in core) as_is.desc offered.run.legal offered.why.copied
+            open_.0 open_.1 offered.why.unfailed
             (sym (machine_now core.desc (past_in core) core.world offered.fits offered.run) ∙ same);
         unsent = unsaid (Ok tt) hears;
         sound_out = hears.failed_out ∙ waits.source.failed_out;

@@ -10,7 +10,8 @@ use Rattle.vfm_move.specs.Contact.{Line}
 use Rattle.vfm_move.specs.Carried.{IsFront}
 
 -- what two functions say of the link at a place
-pub same_at : {L A B X : Type 0} (f : L → A) (g : L → B) (of_first : A → X) (of_second : B → X) → ((link : L) → of_first (f link) ≡ of_second (g link))
+pub same_at : {L A B X : Type 0} (f : L → A) (g : L → B) (of_first : A → X) (of_second : B → X)
+    → ((link : L) → of_first (f link) ≡ of_second (g link))
     → (links : List L) (k : ℕ) (a : A) (b : B) → k < length links
     → of_first (slice_index_or (map f links) k a) ≡ of_second (slice_index_or (map g links) k b)
 same_at f g of_first of_second same [] k a b inside = absurd (omega (arith, inside))
@@ -19,7 +20,8 @@ same_at f g of_first of_second same (link ∷ links) (suc k) a b inside =
     same_at f g of_first of_second same links k a b (omega (arith, inside))
 
 -- what holds at each place holds of what is got there
-pub got : {X : Type 0} (P : ℕ → X → Type 0) (xs : List X) → ((k : ℕ) (d : X) → k < length xs → P k (slice_index_or xs k d)) → (k : ℕ)
+pub got : {X : Type 0} (P : ℕ → X → Type 0) (xs : List X)
+    → ((k : ℕ) (d : X) → k < length xs → P k (slice_index_or xs k d)) → (k : ℕ)
     → IfSome (slice_get xs k) (P k)
 got P [] each k = tt
 got P (x ∷ xs) each zero = each 0 x (omega arith)
@@ -32,7 +34,8 @@ if_some None P Q more is = tt
 if_some (Some x) P Q more is = more x is
 
 -- where nothing was told before, these bytes are all that is told
-pub appended_told : (was now : Option (List ℕ)) (bytes : List ℕ) → TellsNone was → now ≡ with_appended was bytes → IfSome now (λ told. told ≡ bytes)
+pub appended_told : (was now : Option (List ℕ)) (bytes : List ℕ) → TellsNone was → now ≡ with_appended was bytes
+    → IfSome now (λ told. told ≡ bytes)
 appended_told None now bytes none is = subst (λ (o : Option (List ℕ)). IfSome o (λ told. told ≡ bytes)) (sym is) tt
 appended_told (Some told) now bytes none is =
     subst (λ (o : Option (List ℕ)). IfSome o (λ all. all ≡ bytes)) (sym is) (ap (λ (l : List ℕ). l ++ bytes) none)
@@ -94,7 +97,8 @@ abbrev pub silent_line : Line
 silent_line = record { ended = false; failed_out = 0; failed_in = 0; sent = []; received = [] }
 
 -- of a link that is there
-pub there_is : (P : Told → Type 0) (links : List Told) (k : ℕ) → k < length links → ((d : Told) → P (slice_index_or links k d))
+pub there_is : (P : Told → Type 0) (links : List Told) (k : ℕ) → k < length links
+    → ((d : Told) → P (slice_index_or links k d))
     → IsSomeAnd (slice_get links k) P
 there_is P [] k low is = absurd (omega (arith, low))
 there_is P (link ∷ links) zero low is = is link

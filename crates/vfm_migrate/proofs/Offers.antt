@@ -28,11 +28,13 @@ use Rattle.vfm_migrate.proofs.Links.{appended_told, first_bytes, front_of, got, 
 
 -- ---- what one channel has sent
 
-whole_sent : (made : Made) (k : ℕ) (was now : offers.Told) → TellsNone was.sent → SentWhole made.desc (due made k) was now
+whole_sent : (made : Made) (k : ℕ) (was now : offers.Told) → TellsNone was.sent
+    → SentWhole made.desc (due made k) was now
     → IfSome now.sent (HasSent Whole made k)
 whole_sent made k was now none all = appended_told was.sent now.sent (ended_due made k) none all
 
-prefix_sent : (was now : Option (List ℕ)) (bytes : List ℕ) (P : List ℕ → Type 0) → TellsNone was → (sent : SentPrefix was now bytes)
+prefix_sent : (was now : Option (List ℕ)) (bytes : List ℕ) (P : List ℕ → Type 0) → TellsNone was
+    → (sent : SentPrefix was now bytes)
     → P (take sent.count bytes) → IfSome now P
 prefix_sent was now bytes P none sent holds =
     if_some now (λ told. told ≡ take sent.count bytes) P (λ told is. subst P (sym is) holds)
@@ -50,21 +52,25 @@ given_up made k carried count front =
       both = both.are;
     }
 
-front_sent : (made : Made) (k : ℕ) (was now : offers.Told) → TellsNone was.sent → SentFront made.desc (due made k) was now
+front_sent : (made : Made) (k : ℕ) (was now : offers.Told) → TellsNone was.sent
+    → SentFront made.desc (due made k) was now
     → IfSome now.sent (HasSent Front made k)
 front_sent made k was now none (inl sent) =
-    prefix_sent was.sent now.sent (ended_due made k) (HasSent Front made k) none sent (inl (first_bytes sent.count (ended_due made k)))
+    prefix_sent was.sent now.sent (ended_due made k) (HasSent Front made k) none sent
+    (inl (first_bytes sent.count (ended_due made k)))
 front_sent made k was now none (inr given) =
     prefix_sent was.sent now.sent (given.carried ++ abort_bytes made.desc) (HasSent Front made k) none given.sent
     (inr (given_up made k given.carried given.sent.count (record { rest = given.front.rest; is = given.front.is })))
 
-some_sent : {T : Type 0} (result : Result T OfferFault) (made : Made) (k : ℕ) (was now : offers.Told) → TellsNone was.sent
+some_sent : {T : Type 0} (result : Result T OfferFault) (made : Made) (k : ℕ) (was now : offers.Told)
+    → TellsNone was.sent
     → offers.HasSent result made.desc (due made k) was now → IfSome now.sent (HasSent (sent_after result) made k)
 some_sent (Ok value) made k was now none sent = whole_sent made k was now none sent
 some_sent (Err fault) made k was now none sent = front_sent made k was now none sent
 
 -- no arc failed in a journal without an arc that failed
-pub none_failed : (core : CoreState) → is_over (past_in core) ≡ false → is_failed (past_in core) ≡ false → NoArcFailed (made_so_far core None)
+pub none_failed : (core : CoreState) → is_over (past_in core) ≡ false → is_failed (past_in core) ≡ false
+    → NoArcFailed (made_so_far core None)
 none_failed core going unfailed d to found = true≢false (sym (still_failed (past_in core) going d to found) ∙ unfailed)
 
 -- ---- the links of an offer
@@ -86,7 +92,8 @@ tell words link = told_by words.ended words.failed_out words.failed_in words.sen
 abbrev pub tell_out : {L : Type 0} → LinkWords L → L → offers.Told
 tell_out words link = offers.told words.sent words.finished words.failed_out link
 
-module _ {L : Type 0} (words : LinkWords L) (core : CoreState) (n : ℕ) (before now : List L) (channels : length before ≡ core.desc.channels)
+module _ {L : Type 0} (words : LinkWords L) (core : CoreState) (n : ℕ) (before now : List L)
+    (channels : length before ≡ core.desc.channels)
     (count : length now ≡ length before) (fresh : All IsNew (map (tell words) before)) where
   abbrev offer : Offer
   offer = offer_of core n (map (tell_out words) before) (map (tell_out words) now)
@@ -96,17 +103,20 @@ module _ {L : Type 0} (words : LinkWords L) (core : CoreState) (n : ℕ) (before
 
   -- link k before, and now
   was_new : (k : ℕ) → k < core.desc.channels → IsNew (slice_index_or (map (tell words) before) k nothing)
-  was_new k inside = fresh k nothing (let many = length-map before (tell words) in omega (arith, many, channels, inside))
+  was_new k inside = fresh k nothing
+      (let many = length-map before (tell words) in omega (arith, many, channels, inside))
 
   was_none : (k : ℕ) → k < core.desc.channels → TellsNone (was_at offer k).sent
   was_none k inside =
       subst TellsNone
-      (sym (same_at (tell_out words) (tell words) (λ (t : offers.Told). t.sent) (λ (t : Told). t.sent) (λ link. refl) before k untold nothing
+      (sym (same_at (tell_out words) (tell words) (λ (t : offers.Told). t.sent) (λ (t : Told). t.sent) (λ link. refl)
+      before k untold nothing
       (omega (arith, channels, inside)))) (was_new k inside).sent
 
   was_zero : (k : ℕ) → k < core.desc.channels → (was_at offer k).failed_out ≡ 0
   was_zero k inside =
-      same_at (tell_out words) (tell words) (λ (t : offers.Told). t.failed_out) (λ (t : Told). t.failed_out) (λ link. refl) before k untold nothing
+      same_at (tell_out words) (tell words) (λ (t : offers.Told). t.failed_out) (λ (t : Told). t.failed_out)
+      (λ link. refl) before k untold nothing
       (omega (arith, channels, inside)) ∙ (was_new k inside).failed_out
 
   pub channels_sent : {T : Type 0} (result : Result T OfferFault) → AllSent offer result
@@ -117,17 +127,20 @@ module _ {L : Type 0} (words : LinkWords L) (core : CoreState) (n : ℕ) (before
       let low : k < length now = let many = length-map now (tell words) in omega (arith, many, inside) in
       let there : k < core.desc.channels = omega (arith, low, count, channels) in
       subst (λ (o : Option (List ℕ)). IfSome o (HasSent (sent_after result) made k))
-      (same_at (tell_out words) (tell words) (λ (t : offers.Told). t.sent) (λ (t : Told). t.sent) (λ link. refl) now k untold d low)
+      (same_at (tell_out words) (tell words) (λ (t : offers.Told). t.sent) (λ (t : Told). t.sent) (λ link. refl) now k
+      untold d low)
       (some_sent result made k (was_at offer k) (now_at offer k) (was_none k there) (all k there)))
 
   -- ---- why
 
   failed_out : (k : ℕ) → k < core.desc.channels → offers.FailedOut offer k → FailedOut (map (tell words) now) k
   failed_out k inside rose =
-      there_is (λ (link : Told). Rose 0 link.failed_out) (map (tell words) now) k (let many = length-map now (tell words) in omega (arith, many, count, channels, inside))
+      there_is (λ (link : Told). Rose 0 link.failed_out) (map (tell words) now) k
+      (let many = length-map now (tell words) in omega (arith, many, count, channels, inside))
       (λ d.
       subst (λ (m : ℕ). Rose 0 m)
-      (same_at (tell_out words) (tell words) (λ (t : offers.Told). t.failed_out) (λ (t : Told). t.failed_out) (λ link. refl) now k untold d
+      (same_at (tell_out words) (tell words) (λ (t : offers.Told). t.failed_out) (λ (t : Told). t.failed_out)
+      (λ link. refl) now k untold d
       (omega (arith, count, channels, inside)))
       (subst (λ (m : ℕ). Rose m (now_at offer k).failed_out) (was_zero k inside) rose))
 
@@ -138,7 +151,8 @@ module _ {L : Type 0} (words : LinkWords L) (core : CoreState) (n : ℕ) (before
       not_true true none = absurd (none refl)
       not_true false none = refl
 
-  pub offered_for : (result : Result (List ℕ) OfferFault) → is_over (past_in core) ≡ false → HasCause offer result → StopsAtPass offer result
+  pub offered_for : (result : Result (List ℕ) OfferFault) → is_over (past_in core) ≡ false → HasCause offer result
+      → StopsAtPass offer result
       → FailsBeforePass offer result → IfOk result (IsOwnDigest core) → OfferedFor n core (map (tell words) now) result
   offered_for (Ok digest) going cause stops early own =
       record { copied = cause.0; unfailed = cause.1; none_due = none_due digest stops; own = own }
@@ -151,7 +165,8 @@ module _ {L : Type 0} (words : LinkWords L) (core : CoreState) (n : ℕ) (before
 
 -- the digest that is told is the own one
 pub own_digest_of : (core : CoreState) (kept : List ℕ) (result : Result (List ℕ) OfferFault)
-    → IfOk result (λ digest. (digest ≡ state_digest core.desc (joint_machine core.desc (past_in core))) × (kept ≡ digest))
+    → IfOk result (λ digest. (digest ≡ state_digest core.desc (joint_machine core.desc (past_in core)))
+    × (kept ≡ digest))
     → IfOk result (IsOwnDigest core)
 own_digest_of core kept (Ok digest) is = is.0
 own_digest_of core kept (Err fault) is = tt

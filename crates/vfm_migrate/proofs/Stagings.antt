@@ -37,11 +37,13 @@ use Rattle.vfm_migrate.proofs.Offers.{LinkWords, tell}
 -- ---- what is expected
 
 abbrev expect_of : (version session streams : ℕ) → IsVersion version → Expect
-expect_of version session streams known = record { version = version; session = session; streams = streams; known = known }
+expect_of version session streams known = record
+    { version = version; session = session; streams = streams; known = known }
 
 -- of one version, session and number of streams there is one expectation
 same_known : (version : ℕ) (p q : IsVersion version) → p ≡ q
-same_known version p q = ap₂ (λ (low : 1 ≤ version) (high : version ≤ 2). (low, high)) (le_prop p.0 q.0) (le_prop p.1 q.1)
+same_known version p q = ap₂ (λ (low : 1 ≤ version) (high : version ≤ 2). (low, high)) (le_prop p.0 q.0)
+    (le_prop p.1 q.1)
 
 one_expect : (version other session streams : ℕ) (p : IsVersion version) (q : IsVersion other) → version ≡ other
     → expect_of version session streams p ≡ expect_of other session streams q
@@ -54,7 +56,8 @@ second D is =
     cond-true (D.version == 2) (expect_of 2 D.session (device_count D + 1) (le-suc 1, le_refl 2))
     (expect_of 1 D.session (device_count D + 1) (le_refl 1, le-suc 1)) (eq-eqb D.version 2 is)
 
-first : (D : Desc) → (D.version == 2) ≡ false → expected D ≡ expect_of 1 D.session (device_count D + 1) (le_refl 1, le-suc 1)
+first : (D : Desc) → (D.version == 2) ≡ false
+    → expected D ≡ expect_of 1 D.session (device_count D + 1) (le_refl 1, le-suc 1)
 first D other =
     cond-false (D.version == 2) (expect_of 2 D.session (device_count D + 1) (le-suc 1, le_refl 2))
     (expect_of 1 D.session (device_count D + 1) (le_refl 1, le-suc 1)) other
@@ -66,7 +69,8 @@ expected_is D e expects =
     ∙ by_bool (D.version == 2) (λ b. expect_of e.version D.session (device_count D + 1) e.known ≡ expected D)
     (λ two.
     let is : D.version ≡ 2 = eqb-true D.version 2 two in
-    one_expect e.version 2 D.session (device_count D + 1) e.known (le-suc 1, le_refl 2) (expects.version ∙ is) ∙ sym (second D is))
+    one_expect e.version 2 D.session (device_count D + 1) e.known (le-suc 1, le_refl 2) (expects.version ∙ is)
+    ∙ sym (second D is))
     (λ other.
     let low : 1 ≤ e.version = e.known.0 in
     let high : e.version ≤ 2 = e.known.1 in
@@ -84,7 +88,8 @@ expected_is D e expects =
 abbrev pub tell_in : {L : Type 0} → LinkWords L → L → heards.Told
 tell_in words link = heards.told words.received words.ended words.failed_in link
 
-module _ {L : Type 0} (words : LinkWords L) (before now : List L) (count : length now ≡ length before) (fresh : All IsNew (map (tell words) before)) where
+module _ {L : Type 0} (words : LinkWords L) (before now : List L) (count : length now ≡ length before)
+    (fresh : All IsNew (map (tell words) before)) where
   abbrev links : Links
   links = record { before = map (tell_in words) before; now = map (tell_in words) now }
 
@@ -97,22 +102,26 @@ module _ {L : Type 0} (words : LinkWords L) (before now : List L) (count : lengt
   was_none : (k : ℕ) → k < length before → TellsNone (before_at links k).received
   was_none k inside =
       subst TellsNone
-      (sym (same_at (tell_in words) (tell words) (λ (t : heards.Told). t.received) (λ (t : Told). t.received) (λ link. refl) before k untold nothing inside))
+      (sym (same_at (tell_in words) (tell words) (λ (t : heards.Told). t.received) (λ (t : Told). t.received)
+      (λ link. refl) before k untold nothing inside))
       (was_new k inside).received
 
   was_zero : (k : ℕ) → k < length before → (before_at links k).failed_in ≡ 0
   was_zero k inside =
-      same_at (tell_in words) (tell words) (λ (t : heards.Told). t.failed_in) (λ (t : Told). t.failed_in) (λ link. refl) before k untold nothing inside
+      same_at (tell_in words) (tell words) (λ (t : heards.Told). t.failed_in) (λ (t : Told). t.failed_in)
+      (λ link. refl) before k untold nothing inside
       ∙ (was_new k inside).failed_in
 
   failed_in : (k : ℕ) → staging.FailedIn links k → FailedIn (map (tell words) now) k
   failed_in k failed =
       let inside : k < length before = let all = many in omega (arith, all, failed.0) in
       let low : k < length now = omega (arith, inside, count) in
-      there_is (λ (link : Told). Rose 0 link.failed_in) (map (tell words) now) k (let all = length-map now (tell words) in omega (arith, all, low))
+      there_is (λ (link : Told). Rose 0 link.failed_in) (map (tell words) now) k
+      (let all = length-map now (tell words) in omega (arith, all, low))
       (λ d.
       subst (λ (m : ℕ). Rose 0 m)
-      (same_at (tell_in words) (tell words) (λ (t : heards.Told). t.failed_in) (λ (t : Told). t.failed_in) (λ link. refl) now k untold d low)
+      (same_at (tell_in words) (tell words) (λ (t : heards.Told). t.failed_in) (λ (t : Told). t.failed_in)
+      (λ link. refl) now k untold d low)
       (subst (λ (m : ℕ). Rose m (now_at links k).failed_in) (was_zero k inside) failed.1))
 
   -- where the links tell their bytes
@@ -123,23 +132,29 @@ module _ {L : Type 0} (words : LinkWords L) (before now : List L) (count : lengt
         let told = length-map lines told_line in
         let same = ap length are in omega (arith, all, told, same, count)
 
-    line_is : (k : ℕ) (d : Line) → k < length lines → slice_index_or (map (tell words) now) k nothing ≡ told_line (slice_index_or lines k d)
-    line_is k d inside = ap (λ (l : List Told). slice_index_or l k nothing) are ∙ get_or-map told_line lines k d nothing inside
+    line_is : (k : ℕ) (d : Line) → k < length lines
+        → slice_index_or (map (tell words) now) k nothing ≡ told_line (slice_index_or lines k d)
+    line_is k d inside = ap (λ (l : List Told). slice_index_or l k nothing) are
+        ∙ get_or-map told_line lines k d nothing inside
 
-    heard_is : (k : ℕ) (d : Line) → k < length lines → (now_at links k).received ≡ Some (slice_index_or lines k d).received
+    heard_is : (k : ℕ) (d : Line) → k < length lines
+        → (now_at links k).received ≡ Some (slice_index_or lines k d).received
     heard_is k d inside =
-        same_at (tell_in words) (tell words) (λ (t : heards.Told). t.received) (λ (t : Told). t.received) (λ link. refl) now k untold nothing
+        same_at (tell_in words) (tell words) (λ (t : heards.Told). t.received) (λ (t : Told). t.received)
+        (λ link. refl) now k untold nothing
         (let all = line_count in omega (arith, inside, all, count))
         ∙ ap (λ (t : Told). t.received) (line_is k d inside)
 
     ended_is : (k : ℕ) (d : Line) → k < length lines → (now_at links k).ended ≡ (slice_index_or lines k d).ended
     ended_is k d inside =
-        same_at (tell_in words) (tell words) (λ (t : heards.Told). t.ended) (λ (t : Told). t.ended) (λ link. refl) now k untold nothing
+        same_at (tell_in words) (tell words) (λ (t : heards.Told). t.ended) (λ (t : Told). t.ended) (λ link. refl) now
+        k untold nothing
         (let all = line_count in omega (arith, inside, all, count))
         ∙ ap (λ (t : Told). t.ended) (line_is k d inside)
 
     -- the bytes that came are those of the line
-    came_is : (k : ℕ) (d : Line) (came : List ℕ) → k < length lines → (now_at links k).received ≡ with_appended (before_at links k).received came
+    came_is : (k : ℕ) (d : Line) (came : List ℕ) → k < length lines
+        → (now_at links k).received ≡ with_appended (before_at links k).received came
         → (slice_index_or lines k d).received ≡ came
     came_is k d came inside is =
         subst (λ (o : Option (List ℕ)). IfSome o (λ told. told ≡ came)) (heard_is k d inside)
@@ -150,7 +165,8 @@ module _ {L : Type 0} (words : LinkWords L) (before now : List L) (count : lengt
     all_read_out out k d inside =
         ⊎_elim (λ (ended : (now_at links k).ended ≡ true). inl (sym (ended_is k d inside) ∙ ended))
         (λ (passed : HasPassed links k).
-        inr (subst (λ (bytes : List ℕ). channel_limit < length bytes) (sym (came_is k d passed.came inside passed.received)) passed.many))
+        inr (subst (λ (bytes : List ℕ). channel_limit < length bytes)
+        (sym (came_is k d passed.came inside passed.received)) passed.many))
         (out k (let one = line_count in let two = many in omega (arith, inside, one, two))).stopped
 
     all_came : (came : List (List ℕ)) → staging.HaveBrought links came → came ≡ map (λ line. line.received) lines
@@ -159,12 +175,14 @@ module _ {L : Type 0} (words : LinkWords L) (before now : List L) (count : lengt
         (let one = line_count in let two = many in let three = length-map lines (λ (line : Line). line.received) in
         let four = brought.count in omega (arith, one, two, three, four))
         (λ k d inside.
-        let low : k < length lines = let one = line_count in let two = many in let four = brought.count in omega (arith, inside, one, two, four) in
+        let low : k < length lines = let one = line_count in let two = many in let four = brought.count in omega
+        (arith, inside, one, two, four) in
         there k d low (slice_index_or came k d)
         (brought.each k (let four = brought.count in omega (arith, inside, four))
         ∙ ap (with_appended (before_at links k).received) (default_is came k d inside)))
       where
-        default_is : (xs : List (List ℕ)) (k : ℕ) (d : List ℕ) → k < length xs → slice_index_or xs k [] ≡ slice_index_or xs k d
+        default_is : (xs : List (List ℕ)) (k : ℕ) (d : List ℕ) → k < length xs
+            → slice_index_or xs k [] ≡ slice_index_or xs k d
         default_is [] k d low = absurd (omega (arith, low))
         default_is (x ∷ xs) zero d low = refl
         default_is (x ∷ xs) (suc k) d low = default_is xs k d (omega (arith, low))
@@ -179,9 +197,11 @@ module _ {L : Type 0} (words : LinkWords L) (before now : List L) (count : lengt
     verdict_is : (D : Desc) (came : List (List ℕ)) (e : Expect) → Expects D e → staging.HaveBrought links came
         → streams.verdict D (expected D) (map (λ line. line.received) lines) ≡ streams.verdict D e came
     verdict_is D came e expects brought =
-        ap₂ (λ (x : Expect) (bytes : List (List ℕ)). streams.verdict D x bytes) (sym (expected_is D e expects)) (sym (all_came came brought))
+        ap₂ (λ (x : Expect) (bytes : List (List ℕ)). streams.verdict D x bytes) (sym (expected_is D e expects))
+        (sym (all_came came brought))
 
-  brought_by : (D : Desc) (result : Result StagedState StageFault) (v : Verdict) → AreReadOut links (length links.before) → (judged : IsJudged D links result)
+  brought_by : (D : Desc) (result : Result StagedState StageFault) (v : Verdict)
+      → AreReadOut links (length links.before) → (judged : IsJudged D links result)
       → streams.verdict D judged.expect judged.came ≡ v → HaveBrought D (map (tell words) now) v
   brought_by D result v out judged says lines are =
       record {
@@ -197,13 +217,16 @@ module _ {L : Type 0} (words : LinkWords L) (before now : List L) (count : lengt
       record {
         desc = ap (λ (s : CoreState). s.desc) from.core_is;
         digest = from.digest_is ∙ ap (state_digest D) (sym from.machine_is);
-        brought = brought_by D (Ok staged) (Loads (machine_in (core_of staged).world)) out judged (loaded.3 ∙ ap Loads (sym from.machine_is));
+        brought = brought_by D (Ok staged) (Loads (machine_in (core_of staged).world)) out judged
+            (loaded.3 ∙ ap Loads (sym from.machine_is));
       }
 
-  pub staged_for : (D : Desc) (result : Result StagedState StageFault) → Judges D links result → ReadsOut links result → NamesFailed links result
+  pub staged_for : (D : Desc) (result : Result StagedState StageFault) → Judges D links result → ReadsOut links result
+      → NamesFailed links result
       → StagedFor D (map (tell words) now) result
   staged_for D (Ok staged) judged out names = staged_is D staged out judged
-  staged_for D (Err (faults.Refusal why)) judged out names = brought_by D (Err (faults.Refusal why)) (Refuses why) out judged judged.says
+  staged_for D (Err (faults.Refusal why)) judged out names = brought_by D (Err (faults.Refusal why)) (Refuses why) out
+      judged judged.says
   staged_for D (Err (faults.Link k)) judged out names = failed_in k names
   staged_for D (Err faults.NoMemory) judged out names = tt
 

@@ -75,8 +75,8 @@ pub record HeardNothing (link : Told) : Type 0 where
   pub still_open : link.ended ≡ false
   pub sound : link.failed_in ≡ 0
 
--- The source offered all of its machine over its channels, and nothing hindered it; its control link is new, and over the
--- destination's nothing was heard.
+-- The source offered all of its machine over its channels, and nothing hindered it; its control link is new, and over
+-- the destination's nothing was heard.
 pub record AwaitsAnswer (attempt : Attempt) (core : CoreState) (digest : List ℕ) (ends : ToldEnds) : Type 0 where
   pub offered : IsOffered attempt.abort_after core ends.source (Ok digest)
   pub source : IsNew ends.source_control
@@ -90,15 +90,18 @@ pub record IsAnsweredBy (D : Desc) (v : Verdict) (lines : List Line) (control : 
 -- so it is where the destination's links tell their bytes
 abbrev pub HasAnsweredBy : Desc → Verdict → ToldEnds → Type 0
 HasAnsweredBy D v ends =
-    (lines : List Line) (control : Line) → AreLines ends.dest lines → ends.dest_control ≡ told_line control → IsAnsweredBy D v lines control
+    (lines : List Line) (control : Line) → AreLines ends.dest lines → ends.dest_control ≡ told_line control
+    → IsAnsweredBy D v lines control
 
 -- the answer was sent, or the destination's control link failed
 abbrev pub AnswersOrFails : Desc → Verdict → ToldEnds → Result ⊤ NotSent → Type 0
-AnswersOrFails D v ends answered = MatchResult answered (λ _. HasAnsweredBy D v ends) (λ _. Rose 0 ends.dest_control.failed_out)
+AnswersOrFails D v ends answered = MatchResult answered (λ _. HasAnsweredBy D v ends)
+    (λ _. Rose 0 ends.dest_control.failed_out)
 
 -- what a link received in a call
 abbrev pub receipt : Told → Told → Receipt
-receipt before now = record { before = before.received; now = now.received; had_ended = before.ended; ended = now.ended }
+receipt before now = record
+    { before = before.received; now = now.received; had_ended = before.ended; ended = now.ended }
 
 -- The source's control link from before the answer was waited for to after it.
 pub record HearsAnswer (session : ℕ) (own : List ℕ) (before now : Told) (result : Result ⊤ SettleFault) : Type 0 where

@@ -25,7 +25,8 @@ abbrev pub machine_of_staged : StagedState → Machine
 machine_of_staged staged = machine_in (core_of staged).world
 
 -- The destination staged the source's own machine, and the source heard so; nothing was said of Go.
-pub record IsReadyForGo (attempt : Attempt) (core : CoreState) (digest : List ℕ) (staged : StagedState) (ends : ToldEnds) : Type 0 where
+pub record IsReadyForGo (attempt : Attempt) (core : CoreState) (digest : List ℕ) (staged : StagedState)
+    (ends : ToldEnds) : Type 0 where
   pub confirmed : IsConfirmed NoGo attempt (made_so_far core None) ends
   pub valid : IsValid core.desc
   pub own : digest ≡ own_digest (made_so_far core None)
@@ -44,8 +45,8 @@ ComesTo attempt core digest ends (steps.Decided status loaded) =
     IsDecided attempt status (made_so_far core (option_map machine_of_staged loaded)) ends × (owner_at status ≡ WentOn)
 ComesTo attempt core digest ends (steps.Confirmed staged) = IsReadyForGo attempt core digest staged ends
 
--- What stands in a step is of this description. Where Go may be said the source has settled; else it hasn't said Go, nor given
--- up.
+-- What stands in a step is of this description. Where Go may be said the source has settled; else it hasn't said Go, nor
+-- given up.
 abbrev pub IsStepOf : Desc → Phase → Step → Type 0
 IsStepOf D phase (steps.Decided status loaded) =
     IfSome loaded (λ staged. (core_of staged).desc ≡ D) × (phase ≢ phases.Gone) × (phase ≢ phases.GivenUp)

@@ -6,7 +6,8 @@ use Rattle.vfm_outside.specs.declared.wires.Ends.{Ends}
 use Rattle.vfm_move.specs.Contact.{Line, told_line}
 
 -- the links of the two ends
-abbrev pub tells : {L : Type 0} → (L → Bool) → (L → ℕ) → (L → ℕ) → (L → Option (List ℕ)) → (L → Option (List ℕ)) → Ends L → ToldEnds
+abbrev pub tells : {L : Type 0} → (L → Bool) → (L → ℕ) → (L → ℕ) → (L → Option (List ℕ)) → (L → Option (List ℕ))
+    → Ends L → ToldEnds
 tells ended failed_out failed_in sent received ends = ends_told (told_by ended failed_out failed_in sent received) ends
 
 -- these links tell their bytes, and carried this

@@ -32,7 +32,8 @@ made_so_far core loaded =
 
 -- each channel has sent so much of what it is to send, where its link tells that
 abbrev pub ChannelsSent : Channels → Made → List Told → Type 0
-ChannelsSent channels made links = (k : ℕ) → IfSome (slice_get links k) (λ link. IfSome link.sent (HasSent channels made k))
+ChannelsSent channels made links = (k : ℕ)
+    → IfSome (slice_get links k) (λ link. IfSome link.sent (HasSent channels made k))
 
 -- how much that is after an offer
 abbrev pub sent_after : {T : Type 0} → Result T OfferFault → Channels
@@ -47,7 +48,8 @@ NoneDue abort_after made = 0 < abort_after → IsFalse (has_passed made.desc abo
 abbrev pub IsOwnDigest : CoreState → List ℕ → Type 0
 IsOwnDigest core digest = digest ≡ state_digest core.desc (joint_machine core.desc (past_in core))
 
--- Everything was copied, no arc failed, and no pass had ended after which the source was to give up; and this is its digest.
+-- Everything was copied, no arc failed, and no pass had ended after which the source was to give up; and this is its
+-- digest.
 pub record IsCopiedWhole (abort_after : ℕ) (core : CoreState) (digest : List ℕ) : Type 0 where
   pub copied : IsTrue (is_last_ended core.desc (past_in core))
   pub unfailed : IsFalse (is_failed (past_in core))
@@ -59,13 +61,15 @@ abbrev pub OfferedFor : ℕ → CoreState → List Told → Result (List ℕ) Of
 OfferedFor abort_after core links (Ok digest) = IsCopiedWhole abort_after core digest
 OfferedFor abort_after core links (Err (faults.Link k)) = NoArcFailed (made_so_far core None) × FailedOut links k
 OfferedFor abort_after core links (Err (faults.Aborted pass)) =
-    NoArcFailed (made_so_far core None) × (abort_after ≡ pass) × (0 < pass) × IsTrue (has_passed core.desc pass (past_in core))
+    NoArcFailed (made_so_far core None) × (abort_after ≡ pass) × (0 < pass)
+    × IsTrue (has_passed core.desc pass (past_in core))
 OfferedFor abort_after core links (Err (faults.ArcFailed d to)) =
     Contains (past_in core) (Fail d to) × NoneDue abort_after (made_so_far core None)
 OfferedFor abort_after core links (Err faults.NoMemory) = Unit {0}
 
 -- A source has offered its machine over new links, and was neither given up nor taken over.
-pub record IsOffered (abort_after : ℕ) (core : CoreState) (links : List Told) (result : Result (List ℕ) OfferFault) : Type 0 where
+pub record IsOffered (abort_after : ℕ) (core : CoreState) (links : List Told)
+    (result : Result (List ℕ) OfferFault) : Type 0 where
   pub fits : FitsDesc core.desc core.world
   pub run : IsAfter core.desc (past_in core) core.world
   pub going : IsFalse (is_over (past_in core))

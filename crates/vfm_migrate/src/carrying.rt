@@ -48,7 +48,8 @@ fn shake<L: Link>(
         (ends_of from to (told_by L.ended L.failed_out L.failed_in L.sent L.received source.new)
         (told_by L.ended L.failed_out L.failed_in L.sent L.received dest.new)) result }
     ensures mover { IsAsBefore mover.old mover.new }
-    ensures kind { (D : Described) → IfOk staged (λ staged. (core_of staged).desc ≡ D) → IsStepOf D mover.new.phase result }
+    ensures kind { (D : Described) → IfOk staged (λ staged. (core_of staged).desc ≡ D)
+        → IsStepOf D mover.new.phase result }
 {
     match offered {
         Ok(_) => answer(desc, mover, staged, source, dest),
@@ -62,8 +63,8 @@ fn shake<L: Link>(
     }
 }
 
-/// Offers the machine, stages what came, answers, hears the answer, and compares both machines. The links come back in their
-/// order.
+/// Offers the machine, stages what came, answers, hears the answer, and compares both machines. The links come back in
+/// their order.
 pub(crate) fn carry<L: Link>(
     alloc: Global,
     desc: &Desc,
@@ -75,7 +76,8 @@ pub(crate) fn carry<L: Link>(
     requires same { mover.old.core.desc ≡ desc.now }
     requires valid { IsValid desc.now }
     requires new { AreNew desc.now.channels (tells L.ended L.failed_out L.failed_in L.sent L.received ends) }
-    ensures comes_to { (attempt : Attempt) → attempt.abort_after ≡ abort_after → ComesTo attempt mover.new.core mover.new.digest
+    ensures comes_to { (attempt : Attempt) → attempt.abort_after ≡ abort_after
+        → ComesTo attempt mover.new.core mover.new.digest
         (tells L.ended L.failed_out L.failed_in L.sent L.received result.0) result.1 }
     ensures moves { Moves (past_in mover.new.core) mover.new }
     ensures going { IsFalse (is_over (past_in mover.new.core)) }

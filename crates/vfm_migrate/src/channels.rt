@@ -49,7 +49,8 @@ pub(crate) fn stage<L: Link>(
     requires valid { IsValid desc.now }
     requires channels { length links.items ≡ desc.now.channels }
     requires new { All IsNew (map (told_by L.ended L.failed_out L.failed_in L.sent L.received) links.items) }
-    ensures staged { StagedFor desc.now (map (told_by L.ended L.failed_out L.failed_in L.sent L.received) result.0.items) result.1 }
+    ensures staged { StagedFor desc.now
+        (map (told_by L.ended L.failed_out L.failed_in L.sent L.received) result.0.items) result.1 }
     ensures links { length result.0.items ≡ length links.items }
     ensures desc { IfOk result.1 (λ staged. (core_of staged).desc ≡ desc.now) }
 {

@@ -99,8 +99,8 @@ fn compare(mover: &Mover, staged: Staged) -> Step
     }
 }
 
-// Where a move stands whose destination staged a machine: the source hears so, and both machines are compared; or it hears
-// another thing.
+// Where a move stands whose destination staged a machine: the source hears so, and both machines are compared; or it
+// hears another thing.
 fn hear_staged<L: Link>(
     mover: &mut Mover,
     staged: Staged,
@@ -151,7 +151,8 @@ pub(crate) fn answer<L: Link>(
         (ends_of from to (told_by L.ended L.failed_out L.failed_in L.sent L.received source.new)
         (told_by L.ended L.failed_out L.failed_in L.sent L.received dest.new)) result }
     ensures mover { IsAsBefore mover.old mover.new }
-    ensures kind { (D : Described) → IfOk staged (λ staged. (core_of staged).desc ≡ D) → IsStepOf D mover.new.phase result }
+    ensures kind { (D : Described) → IfOk staged (λ staged. (core_of staged).desc ≡ D)
+        → IsStepOf D mover.new.phase result }
 {
     let answered = vfm_dest::answer(dest, desc.session, &staged);
     match staged {

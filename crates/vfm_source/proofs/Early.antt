@@ -30,9 +30,10 @@ use Rattle.vfm_source.proofs.Moves.{past_more}
 -- it wants that
 abbrev is_fail : Want → Bool
 is_fail (Do (Fail d to)) = true
-is_fail want = false
+is_fail other = false
 
-do_for_others : (entry : ℕ → Entry) (o : Option ℕ) (other : Want) → ((d : ℕ) → is_fail (Do (entry d)) ≡ false) → is_fail other ≡ false
+do_for_others : (entry : ℕ → Entry) (o : Option ℕ) (other : Want) → ((d : ℕ) → is_fail (Do (entry d)) ≡ false)
+    → is_fail other ≡ false
     → is_fail (do_for entry o other) ≡ false
 do_for_others entry None other each rest = rest
 do_for_others entry (Some d) other each rest = each d
@@ -44,7 +45,8 @@ either false x y one other = other
 home : (D : Desc) (look : MoveLook) → is_fail (way_home D look) ≡ false
 home D look =
     do_for_others (λ d. Arc d (next_seen D look d Running)) (least_below look.count (λ d. may_go_home look d))
-    (if sees_all_in look Running then Done else Wait) (λ d. refl) (either (sees_all_in look Running) Done Wait refl refl)
+    (if sees_all_in look Running then Done else Wait) (λ d. refl)
+    (either (sees_all_in look Running) Done Wait refl refl)
 
 begins : (D : Desc) (look : MoveLook) → is_fail (beginning D look) ≡ false
 begins D look = either (all_below look.count (λ d. sees_warm D look d)) (Do Begin) Wait refl refl
@@ -55,10 +57,12 @@ part (Some d) None = refl
 part (Some d) (Some b) = refl
 
 rest : (look : MoveLook) → is_fail (rest_of_pass look) ≡ false
-rest look = do_for_others Copy look.next_copy (part_of_pass look.part look.next_block) (λ p. refl) (part look.part look.next_block)
+rest look = do_for_others Copy look.next_copy (part_of_pass look.part look.next_block) (λ p. refl)
+    (part look.part look.next_block)
 
 -- a line that wants no such thing isn't the one that applies
-passed_over : (applies : Bool) (here : Want) (others : List (Bool × Want)) → is_fail (first_line ((applies, here) ∷ others)) ≡ true
+passed_over : (applies : Bool) (here : Want) (others : List (Bool × Want))
+    → is_fail (first_line ((applies, here) ∷ others)) ≡ true
     → is_fail here ≡ false → (applies ≡ false) × (is_fail (first_line others) ≡ true)
 passed_over true here others fails other = absurd (true≢false (sym fails ∙ other))
 passed_over false here others fails other = (refl, fails)
@@ -77,7 +81,8 @@ module _ (D : Desc) (past : List Entry) (n : ℕ) where
 
   aborts : is_over past ≡ false → is_failed past ≡ true → next_want D (look_after D past) n ≡ Do Abort
   unfolding from_line
-  aborts going failed = abort_first (is_over past) (is_failed past) (way_home D (look_after D past)) (from_line 2) going failed
+  aborts going failed = abort_first (is_over past) (is_failed past) (way_home D (look_after D past)) (from_line 2)
+      going failed
 
   -- the newest pass has ended then, and the source isn't asked to give up
   record Unasked : Type 0 where
@@ -112,11 +117,13 @@ module _ (D : Desc) (past : List Entry) (n : ℕ) where
 -- ---- what keeps it
 
 -- an entry that the order wants
-made_early : (D : Desc) (past : List Entry) (n : ℕ) (entry : Entry) → is_over past ≡ false → next_want D (look_after D past) n ≡ Do entry
+made_early : (D : Desc) (past : List Entry) (n : ℕ) (entry : Entry) → is_over past ≡ false
+    → next_want D (look_after D past) n ≡ Do entry
     → FailsEarly n past → FailsEarly n (entry ∷ past)
 made_early D past n (Fail d to) going want early = λ some failed. fails_early D past n (ap is_fail want) some
 made_early D past n Abort going want early = λ some failed. absurd (false≢true failed)
-made_early D past n (Pass k) going want early = λ some failed. absurd (pass_is_no_abort k (sym want ∙ aborts D past n going failed))
+made_early D past n (Pass k) going want early = λ some failed. absurd
+    (pass_is_no_abort k (sym want ∙ aborts D past n going failed))
   where
     pass_is_no_abort : (j : ℕ) → Do (Pass j) ≡ Do Abort → ⊥
     pass_is_no_abort j same = cc
@@ -134,7 +141,8 @@ turn_early core n going early = by (want_on core.desc None (past_in core) n) ref
         subst (FailsEarly n) (sym (past_more core entry (after_on core.desc core.world entry)))
         (made_early core.desc (past_in core) n entry going want early)
 
-    by : (want : Want) → want_on core.desc None (past_in core) n ≡ want → FailsEarly n (past_in (with_made (entry_made want) core))
+    by : (want : Want) → want_on core.desc None (past_in core) n ≡ want
+        → FailsEarly n (past_in (with_made (entry_made want) core))
     by (Do entry) is = made entry is (is_abort entry)
     by Wait is = early
     by Done is = early
@@ -144,10 +152,12 @@ pub turn_early_by : {T E : Type 0} (r : Result T E) (core new : CoreState) (n : 
     → is_over (past_in core) ≡ false → FailsEarly n (past_in core) → FailsEarly n (past_in new)
 turn_early_by (Ok value) core new n made unmade going early =
     subst (λ (s : CoreState). FailsEarly n (past_in s)) (sym made) (turn_early core n going early)
-turn_early_by (Err e) core new n made unmade going early = subst (λ (s : CoreState). FailsEarly n (past_in s)) (sym unmade) early
+turn_early_by (Err e) core new n made unmade going early = subst (λ (s : CoreState). FailsEarly n (past_in s))
+    (sym unmade) early
 
 -- an entry of a request
-pub request_early : (n : ℕ) (entry : Entry) (past : List Entry) → is_coordinators entry ≡ false → FailsEarly n past → FailsEarly n (entry ∷ past)
+pub request_early : (n : ℕ) (entry : Entry) (past : List Entry) → is_coordinators entry ≡ false → FailsEarly n past
+    → FailsEarly n (entry ∷ past)
 request_early n (Issue e k) past own early = early
 request_early n (Deliver e k) past own early = early
 request_early n (Complete e k) past own early = early

@@ -17,5 +17,6 @@ still_moves mover later past same moves given =
     record {
       run = given.on.run;
       joint = λ reached.
-          same ∙ moves.joint (sym kept.joint ∙ reached) ∙ ap (λ (E : Desc). joint_machine E past) (sym given.on.desc) ∙ sym kept.machine;
+          same ∙ moves.joint (sym kept.joint ∙ reached) ∙ ap (λ (E : Desc). joint_machine E past) (sym given.on.desc)
+          ∙ sym kept.machine;
     }

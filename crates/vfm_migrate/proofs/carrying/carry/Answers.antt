@@ -19,8 +19,10 @@ returns-clause-comes_to g c = λ attempt asked.
     subst (λ (n : ℕ). IsOffered n mid.core from c.offer-source.result.1) (sym asked) c.offer-source.ensures.offered in
     let comes : ComesTo attempt mid.core mid.digest ends c.shake-step.result =
     c.shake-step.ensures.step attempt from to offered c.stage-dest.ensures.staged in
-    subst (λ (s : CoreState). ComesTo attempt s c.shake-step.new.mover.digest ends c.shake-step.result) (sym c.shake-step.ensures.mover.core)
-    (subst (λ (own : List ℕ). ComesTo attempt mid.core own ends c.shake-step.result) (sym c.shake-step.ensures.mover.digest) comes)
+    subst (λ (s : CoreState). ComesTo attempt s c.shake-step.new.mover.digest ends c.shake-step.result)
+    (sym c.shake-step.ensures.mover.core)
+    (subst (λ (own : List ℕ). ComesTo attempt mid.core own ends c.shake-step.result)
+    (sym c.shake-step.ensures.mover.digest) comes)
 
 pub returns-clause-step : goal.returns-clause-step
 returns-clause-step g c = c.shake-step.ensures.kind c.args.desc.now c.stage-dest.ensures.desc

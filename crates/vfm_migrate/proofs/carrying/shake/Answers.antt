@@ -22,7 +22,8 @@ returns-in-Err-clause-step g c = λ attempt from to offered staged_for.
     let ends : ToldEnds = ends_of from to (T c.args.source.now) now in
     let failed : IsOffered attempt.abort_after core from (Err fault) =
     subst (λ (r : Result (List ℕ) OfferFault). IsOffered attempt.abort_after core from r) c.in-Err.is offered in
-    subst (λ (s : Status). ComesTo attempt core c.args.mover.now.digest ends (steps.Decided s None)) (sym c.offer_status.ensures) (
+    subst (λ (s : Status). ComesTo attempt core c.args.mover.now.digest ends (steps.Decided s None))
+    (sym c.offer_status.ensures) (
       offer_failed attempt core ends fault failed c.requires.source
           (still_unheard before now c.requires.dest c.refuse.ensures.received c.refuse.ensures.ended),
       offers_on fault,

@@ -28,9 +28,11 @@ returns-clause-offered g c =
       run = c.offer-offered.ensures.run.run;
       going = c.offer-offered.ensures.going;
       channels = length-map now (tell words) ∙ count ∙ many;
-      sent = channels_sent words core c.args.abort_after before now many count c.requires.new result c.offer-offered.ensures.sent;
+      sent = channels_sent words core c.args.abort_after before now many count c.requires.new result
+          c.offer-offered.ensures.sent;
       why =
-          offered_for words core c.args.abort_after before now many count c.requires.new result c.offer-offered.ensures.going
+          offered_for words core c.args.abort_after before now many count c.requires.new result
+          c.offer-offered.ensures.going
           c.offer-offered.ensures.cause c.offer-offered.ensures.pass c.offer-offered.ensures.early
           (own_digest_of core c.offer-offered.new.self.digest result c.offer-offered.ensures.digest);
     }

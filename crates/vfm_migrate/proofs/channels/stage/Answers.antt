@@ -13,7 +13,8 @@ returns-clause-staged g c =
       sent = g.L.Link.sent;
       received = g.L.Link.received;
     } in
-    staged_for words c.args.links.items c.stage.result.0.items c.stage.ensures.links c.requires.new c.args.desc.now c.stage.result.1
+    staged_for words c.args.links.items c.stage.result.0.items c.stage.ensures.links c.requires.new c.args.desc.now
+    c.stage.result.1
     c.stage.ensures.verdict c.stage.ensures.read_out c.stage.ensures.failed
 
 pub returns-clause-desc : goal.returns-clause-desc
@@ -27,5 +28,6 @@ returns-clause-desc g c =
       received = g.L.Link.received;
     } in
     staged_desc c.args.desc.now _ c.stage.result.1
-    (staged_for words c.args.links.items c.stage.result.0.items c.stage.ensures.links c.requires.new c.args.desc.now c.stage.result.1
+    (staged_for words c.args.links.items c.stage.result.0.items c.stage.ensures.links c.requires.new c.args.desc.now
+    c.stage.result.1
     c.stage.ensures.verdict c.stage.ensures.read_out c.stage.ensures.failed)

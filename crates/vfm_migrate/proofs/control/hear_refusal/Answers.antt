@@ -32,7 +32,8 @@ returns-in-Ok-clause-decided g c = λ attempt ends same waits answers.
       sent = c.in-Ok.ensures.sent;
       failed_out = c.in-Ok.ensures.failed_out;
     } in
-    heard_refused attempt core digest (Refuses c.args.why) ends was now same waits c.args.answered answers c.args.why refl (search rules) hears
+    heard_refused attempt core digest (Refuses c.args.why) ends was now same waits c.args.answered answers c.args.why
+    refl (search rules) hears
 
 pub returns-in-Err-clause-decided : goal.returns-in-Err-clause-decided
 returns-in-Err-clause-decided g c = λ attempt ends same waits answers.
@@ -48,5 +49,7 @@ returns-in-Err-clause-decided g c = λ attempt ends same waits answers.
       sent = c.in-Err.ensures.sent;
       failed_out = c.in-Err.ensures.failed_out;
     } in
-    subst (λ (s : Status). IsDecided attempt s (made_so_far core None) (with_source now ends)) (sym c.settle_status.ensures)
-    (heard_other attempt core digest (Refuses c.args.why) ends was now same waits c.args.answered answers c.in-Err.fault (search rules) hears)
+    subst (λ (s : Status). IsDecided attempt s (made_so_far core None) (with_source now ends))
+    (sym c.settle_status.ensures)
+    (heard_other attempt core digest (Refuses c.args.why) ends was now same waits c.args.answered answers
+    c.in-Err.fault (search rules) hears)

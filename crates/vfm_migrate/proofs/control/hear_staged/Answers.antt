@@ -15,8 +15,11 @@ returns-then-is_err-clause-step g c = λ attempt ends same waits answers as_is.
     let T = told_by g.L.Link.ended g.L.Link.failed_out g.L.Link.failed_in g.L.Link.sent g.L.Link.received in
     let core = c.args.mover.now.core in
     let digest = c.args.mover.now.digest in
-    let was : Told = T c.args.source.now in
-    (not_sent attempt core digest (Loads (machine_of_staged c.args.staged)) ends was was same waits c.args.answered answers (search rules), refl)
+    let was : Told = T c.args.source.now in (
+      not_sent attempt core digest (Loads (machine_of_staged c.args.staged)) ends was was same waits c.args.answered
+          answers (search rules),
+      refl,
+    )
 
 pub returns-in-Ok-clause-step : goal.returns-in-Ok-clause-step
 returns-in-Ok-clause-step g c = λ attempt ends same waits answers as_is.
@@ -35,7 +38,8 @@ returns-in-Ok-clause-step g c = λ attempt ends same waits answers as_is.
     let unchanged : c.settle.new.self.core ≡ core = ap (λ (m : MoverState). m.core) c.in-Ok.ensures.phase in
     let compared : Compares core c.args.staged c.compare.result =
     subst (λ (s : CoreState). Compares s c.args.staged c.compare.result) unchanged c.compare.ensures in
-    heard_compared attempt core digest (Loads (machine_of_staged c.args.staged)) ends was now same waits c.args.answered answers c.args.staged
+    heard_compared attempt core digest (Loads (machine_of_staged c.args.staged)) ends was now same waits
+    c.args.answered answers c.args.staged
     c.compare.result refl as_is (search rules) hears compared
 
 pub returns-in-Err-clause-step : goal.returns-in-Err-clause-step
@@ -52,7 +56,8 @@ returns-in-Err-clause-step g c = λ attempt ends same waits answers as_is.
       sent = c.in-Err.ensures.sent;
       failed_out = c.in-Err.ensures.failed_out;
     } in
-    heard_other_step attempt core digest (Loads (machine_of_staged c.args.staged)) ends was now same waits c.args.answered answers
+    heard_other_step attempt core digest (Loads (machine_of_staged c.args.staged)) ends was now same waits
+    c.args.answered answers
     c.in-Err.fault c.settle_status.result c.settle_status.ensures (search rules) hears
 
 pub returns-in-Ok-clause-kind : goal.returns-in-Ok-clause-kind
