@@ -38,10 +38,27 @@ pub fn pairs(alloc: Global, word: &str) -> Result<Vec<(u32, u32)>, Trouble> {
     Ok(list)
 }
 
-/// Bytes as hex digits; `-` is no byte.
+/// Bytes: parts joined by `+`, each of them bytes as hex digits, or `HEX*N` for those bytes N times; `-` is no byte.
 pub fn bytes(alloc: Global, word: &str) -> Result<Vec<u8>, Trouble> {
+    let mut out = Vec::new(alloc);
     if word == "-" {
-        return Ok(Vec::new(alloc));
+        return Ok(out);
     }
-    Ok(hex::decode(alloc, word)?)
+    for part in word.split('+') {
+        push_part(alloc, &mut out, part)?;
+    }
+    Ok(out)
+}
+
+// appends the bytes of a part
+fn push_part(alloc: Global, out: &mut Vec<u8>, part: &str) -> Result<(), Trouble> {
+    let (digits, times) = match part.split_once('*') {
+        Some((digits, times)) => (digits, number(times)?),
+        None => (part, 1),
+    };
+    let once = hex::decode(alloc, digits)?;
+    for _ in 0..times {
+        out.extend_from_slice(once.as_slice())?;
+    }
+    Ok(())
 }
