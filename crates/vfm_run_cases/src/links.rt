@@ -9,6 +9,20 @@ use crate::words::{bytes, number, numbers};
 use std::alloc::Global;
 use vfm_outside::{Ends, ScriptLink};
 
+/// The links for control, of the source and of the destination.
+#[derive(Clone, Copy)]
+pub struct Control<'a> {
+    pub near: &'a str,
+    pub far: &'a str,
+}
+
+/// The links of a channel, of the source and of the destination.
+#[derive(Clone, Copy)]
+pub struct Channel<'a> {
+    pub from: &'a str,
+    pub to: &'a str,
+}
+
 /// What a move of a case goes over.
 #[derive(Clone, Copy)]
 pub enum Wiring<'a> {
@@ -17,9 +31,9 @@ pub enum Wiring<'a> {
     /// Rings in memory, with these calls that fail.
     Rings(&'a str),
     /// Links of one channel that bring what was fixed beforehand: both for control, then the channel's.
-    Single(&'a str, &'a str, &'a str, &'a str),
+    Single(Control<'a>, Channel<'a>),
     /// The same with two channels.
-    Double(&'a str, &'a str, [&'a str; 4]),
+    Double(Control<'a>, Channel<'a>, Channel<'a>),
 }
 
 impl<'a> Wiring<'a> {
@@ -28,11 +42,16 @@ impl<'a> Wiring<'a> {
         match parts {
             ["none"] => Ok(Wiring::Missing),
             ["rings", calls] => Ok(Wiring::Rings(calls)),
-            ["links", near, far, from, to] => Ok(Wiring::Single(near, far, from, to)),
+            ["links", near, far, from, to] => {
+                Ok(Wiring::Single(Control { near, far }, Channel { from, to }))
+            }
             ["links", near, far, from, to, other_from, other_to] => Ok(Wiring::Double(
-                near,
-                far,
-                [from, to, other_from, other_to],
+                Control { near, far },
+                Channel { from, to },
+                Channel {
+                    from: other_from,
+                    to: other_to,
+                },
             )),
             _ => Err(Trouble::Form),
         }
@@ -59,44 +78,42 @@ fn link_of(alloc: Global, text: &str) -> Result<ScriptLink, Trouble>
 /// The ends of links with one channel.
 pub fn single(
     alloc: Global,
-    near: &str,
-    far: &str,
-    from: &str,
-    to: &str,
+    control: Control,
+    channel: Channel,
 ) -> Result<Ends<ScriptLink>, Trouble>
     ensures { IfOk result EndsAreNew }
 {
     let mut source = Vec::new(alloc);
-    source.push(link_of(alloc, from)?)?;
+    source.push(link_of(alloc, channel.from)?)?;
     let mut dest = Vec::new(alloc);
-    dest.push(link_of(alloc, to)?)?;
+    dest.push(link_of(alloc, channel.to)?)?;
     Ok(Ends {
-        source_control: link_of(alloc, near)?,
+        source_control: link_of(alloc, control.near)?,
         source,
-        dest_control: link_of(alloc, far)?,
+        dest_control: link_of(alloc, control.far)?,
         dest,
     })
 }
 
-/// The ends of links with two channels: of each the source's link and the destination's.
+/// The ends of links with two channels.
 pub fn double(
     alloc: Global,
-    near: &str,
-    far: &str,
-    channels: &[&str; 4],
+    control: Control,
+    first: Channel,
+    second: Channel,
 ) -> Result<Ends<ScriptLink>, Trouble>
     ensures { IfOk result EndsAreNew }
 {
     let mut source = Vec::new(alloc);
-    source.push(link_of(alloc, channels[0])?)?;
-    source.push(link_of(alloc, channels[2])?)?;
+    source.push(link_of(alloc, first.from)?)?;
+    source.push(link_of(alloc, second.from)?)?;
     let mut dest = Vec::new(alloc);
-    dest.push(link_of(alloc, channels[1])?)?;
-    dest.push(link_of(alloc, channels[3])?)?;
+    dest.push(link_of(alloc, first.to)?)?;
+    dest.push(link_of(alloc, second.to)?)?;
     Ok(Ends {
-        source_control: link_of(alloc, near)?,
+        source_control: link_of(alloc, control.near)?,
         source,
-        dest_control: link_of(alloc, far)?,
+        dest_control: link_of(alloc, control.far)?,
         dest,
     })
 }

@@ -87,18 +87,18 @@ fn run_of<H: Threads + Wait + Sync>(
     alloc: Global,
     case: &Case,
 ) -> Result<(u8, MemSink), Trouble> {
-    match &case.wiring {
+    match case.wiring {
         Wiring::Missing => moved(rt, alloc, case, &mut ScriptWires::of(alloc, None)),
         Wiring::Rings(calls) => {
             let calls = pairs(alloc, calls)?;
             moved(rt, alloc, case, &mut RingWires::of(alloc, SLOTS, 0, calls))
         }
-        Wiring::Single(near, far, from, to) => {
-            let ends = single(alloc, near, far, from, to)?;
+        Wiring::Single(control, channel) => {
+            let ends = single(alloc, control, channel)?;
             moved(rt, alloc, case, &mut ScriptWires::of(alloc, Some(ends)))
         }
-        Wiring::Double(near, far, channels) => {
-            let ends = double(alloc, near, far, channels)?;
+        Wiring::Double(control, first, second) => {
+            let ends = double(alloc, control, first, second)?;
             moved(rt, alloc, case, &mut ScriptWires::of(alloc, Some(ends)))
         }
     }
