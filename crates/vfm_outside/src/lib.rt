@@ -21,6 +21,7 @@ mod wires;
 
 pub use beat::{Beat, NoBeat};
 pub use failed::{Failed, ReadFault};
+pub use faults::{Counting, all_faults};
 pub use link::Link;
 pub use mem_sink::MemSink;
 pub use mem_source::MemSource;
