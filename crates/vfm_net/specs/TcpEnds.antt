@@ -1,5 +1,5 @@
 -- The links over TCP of the two ends, and what they report: they report no bytes.
-use Rattle.std.specs.Prelude.{ℕ, ◌+◌, Option, Some, None}
+use Rattle.std.specs.Prelude.{ℕ, Option, Some, None}
 use Rattle.vfm_outside.specs.declared.wires.Ends.{Ends}
 use Rattle.vfm_outside.specs.Links.{Told, ToldEnds, ends_faults}
 use Rattle.vfm_outside.specs.Carried.{ends_told}

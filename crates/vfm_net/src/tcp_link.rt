@@ -1,9 +1,7 @@
 //! A link over a TCP stream.
 
-ghost use Rattle.std.specs.Prelude.{◌≡◌, ◌≢◌, ◌+◌, ◌<◌, ◌≤◌, ◌||◌, None, Ok, OnOk, IfOk, IfSome, OnErr, false, length, is_ok};
-ghost use Rattle.vfm_outside.specs.Counts.{CountsFaults};
-ghost use Rattle.vfm_outside.specs.Told.{Takes, Receives};
-ghost use Rattle.vfm_outside.specs.Links.{IsNew, ended_after};
+ghost use Rattle.std.specs.Prelude.{◌≡◌, ◌+◌, ◌<◌, ◌≤◌, None, Some, IfSome, false, length};
+ghost use Rattle.vfm_outside.specs.Links.{IsNew};
 ghost use Rattle.vfm_net.specs.TcpEnds.{tcp_told};
 
 use std::io::{ErrorKind, Read, Write};
@@ -28,6 +26,7 @@ impl<S: Drop> TcpLink<S> {
     /// A new link over this stream.
     pub fn of(stream: S) -> TcpLink<S>
         ensures new { IsNew (tcp_told result) }
+        ensures stream { result.stream ≡ Some stream }
         ensures finished { result.finished ≡ false }
     {
         TcpLink {
