@@ -1,5 +1,5 @@
 -- The rounds of an offer: what they leave of the links, and why they end.
-use Rattle.std.specs.Prelude.{◌≡◌, ℕ, ◌<◌, Bool, Option, List, length, map, IsTrue, IsFalse}
+use Rattle.std.specs.Prelude.{◌≡◌, ℕ, ◌<◌, Bool, true, Option, None, List, length, map, slice_index_or, IsTrue, IsFalse}
 use Rattle.vfm_types.specs.declared.desc.Desc.{Desc}
 use Rattle.vfm_types.specs.declared.entry.Entry.{Entry}
 use Rattle.vfm_types.specs.Phases.{is_failed, pass_count}
@@ -7,8 +7,10 @@ use Rattle.vfm_plain.specs.Ended.{is_last_ended}
 use Rattle.vfm_order.specs.Coordinator.{is_abort_due}
 use Rattle.vfm_core.specs.CoreState.{CoreState}
 use Rattle.vfm_drive.specs.Runs.{left_in}
+use Rattle.vfm_send.specs.declared.sender.Sender.{Sender}
+use Rattle.vfm_send.specs.Sends.{has_failed}
 use Rattle.vfm_outlets.specs.declared.outlets.Outlets.{Outlets}
-use Rattle.vfm_outlets.specs.Carrying.{AllFare, links_of}
+use Rattle.vfm_outlets.specs.Carrying.{AllFare, FirstFailed, links_of}
 use Rattle.vfm_source.specs.Moving.{past_in}
 use Rattle.vfm_source.specs.declared.order.Turn.{Turn}
 use Rattle.vfm_source.specs.declared.order.Turn.TheVariants as turns
@@ -46,6 +48,20 @@ Stops stops.Done D abort_after past =
     IsTrue (is_last_ended D past) × IsFalse (is_failed past) × IsFalse (is_abort_due D past abort_after)
 Stops stops.AbortDue D abort_after past = IsTrue (is_abort_due D past abort_after)
 Stops stop D abort_after past = Unit {0}
+
+-- no channel has failed, and nothing waits in one
+abbrev pub AreSent : {L : Type 0} → Outlets L → Type 0
+AreSent outlets = FirstFailed outlets.senders.items (length outlets.senders.items) None
+
+-- some channel has failed
+abbrev pub HasFailed : {L : Type 0} → Outlets L → Type 0
+HasFailed {L} outlets =
+    (k : ℕ) × (k < length outlets.senders.items) × ((d : Sender L) → has_failed (slice_index_or outlets.senders.items k d) ≡ true)
+
+-- the rounds end for a link only where one has failed
+abbrev pub StopsAtLink : {L : Type 0} → Stop → Outlets L → Type 0
+StopsAtLink stops.LinkFault outlets = HasFailed outlets
+StopsAtLink stop outlets = Unit {0}
 
 -- an arc failed, if one did, before the pass began after which the source is to give up; 0 is for no pass
 abbrev pub FailsEarly : ℕ → List Entry → Type 0

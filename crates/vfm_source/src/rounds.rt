@@ -6,7 +6,7 @@ ghost use Rattle.vfm_drive.specs.Runs.{left_in};
 ghost use Rattle.vfm_streams.specs.Sent.{Sent};
 ghost use Rattle.vfm_outlets.specs.Carrying.{Carries, all_failed, links_of};
 ghost use Rattle.vfm_source.specs.Moving.{IsMoving, IsOnMove, past_in};
-ghost use Rattle.vfm_source.specs.Rounds.{FailsEarly, Leaves, Stops, TurnTells, words};
+ghost use Rattle.vfm_source.specs.Rounds.{AreSent, FailsEarly, Leaves, Stops, StopsAtLink, TurnTells, words};
 ghost use Rattle.vfm_source.specs.declared.rounds.Stop.TheVariants as stops;
 
 use crate::order::{Turn, take_turn};
@@ -36,6 +36,8 @@ fn send<L: Link>(outlets: &mut Outlets<L>) -> Option<Stop>
     ensures carries { (D : Desc) (starts : List (Option (List ℕ))) (all : List Sent) → Carries L.sent D starts all outlets.old
         → Carries L.sent D starts all outlets.new }
     ensures fault { IfSome result (λ stop. stop ≡ stops.LinkFault) }
+    ensures link { IfSome result (λ stop. StopsAtLink stop outlets.new) }
+    ensures sent { result ≡ None → AreSent outlets.new }
 {
     match outlets.send_all() {
         None => None,
@@ -83,6 +85,9 @@ pub fn round<L: Link>(
     ensures goes_on { result ≡ None → left_in core.new < left_in core.old }
     ensures early { FailsEarly abort_after (past_in core.old) → FailsEarly abort_after (past_in core.new) }
     ensures stops { IfSome result (λ stop. Stops stop core.new.desc abort_after (past_in core.new)) }
+    // where rounds go on, all that waited was sent; they end for a link only where one has failed
+    ensures sent { result ≡ None → AreSent outlets.new }
+    ensures link { IfSome result (λ stop. StopsAtLink stop outlets.new) }
 {
     match step_all(core, joint, outlets, abort_after) {
         Ok(Turn::Made) | Ok(Turn::Waits) => send(outlets),
@@ -107,6 +112,7 @@ pub fn make_rounds<L: Link>(
     ensures leaves { Leaves (words L.failed_out L.failed_in L.received L.ended) outlets.old outlets.new }
     ensures desc { core.new.desc ≡ core.old.desc }
     ensures stops { Stops result core.new.desc abort_after (past_in core.new) }
+    ensures link { StopsAtLink result outlets.new }
     ensures early { FailsEarly abort_after (past_in core.old) → FailsEarly abort_after (past_in core.new) }
 {
     'rounds: loop {
