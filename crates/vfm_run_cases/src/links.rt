@@ -1,6 +1,6 @@
 //! The links that a move of a case goes over.
 
-ghost use Rattle.std.specs.Prelude.{◌≡◌, IfOk, vec_len};
+ghost use Rattle.std.specs.Prelude.{◌≡◌, ◌*◌, ◌≤◌, All, IfOk, length, map, vec_len};
 ghost use Rattle.vfm_outside.specs.Links.{IsNew};
 ghost use Rattle.vfm_outside.specs.ScriptEnds.{EndsAreNew, script_told};
 
@@ -9,20 +9,6 @@ use crate::words::{bytes, number, numbers};
 use std::alloc::Global;
 use vfm_outside::{Ends, ScriptLink};
 
-/// The links for control, of the source and of the destination.
-#[derive(Clone, Copy)]
-pub struct Control<'a> {
-    pub near: &'a str,
-    pub far: &'a str,
-}
-
-/// The links of a channel, of the source and of the destination.
-#[derive(Clone, Copy)]
-pub struct Channel<'a> {
-    pub from: &'a str,
-    pub to: &'a str,
-}
-
 /// What a move of a case goes over.
 #[derive(Clone, Copy)]
 pub enum Wiring<'a> {
@@ -30,29 +16,20 @@ pub enum Wiring<'a> {
     Missing,
     /// Rings in memory, with these calls that fail.
     Rings(&'a str),
-    /// Links of one channel that bring what was fixed beforehand: both for control, then the channel's.
-    Single(Control<'a>, Channel<'a>),
-    /// The same with two channels.
-    Double(Control<'a>, Channel<'a>, Channel<'a>),
+    /// Links that bring what was fixed beforehand: both for control, then for each channel the source's and the destination's.
+    Links(&'a [&'a str]),
+    /// Sockets of this machine.
+    Tcp,
 }
 
 impl<'a> Wiring<'a> {
     /// What these parts of a case say.
-    pub fn of(parts: &[&'a str]) -> Result<Wiring<'a>, Trouble> {
+    pub fn of(parts: &'a [&'a str]) -> Result<Wiring<'a>, Trouble> {
         match parts {
             ["none"] => Ok(Wiring::Missing),
             ["rings", calls] => Ok(Wiring::Rings(calls)),
-            ["links", near, far, from, to] => {
-                Ok(Wiring::Single(Control { near, far }, Channel { from, to }))
-            }
-            ["links", near, far, from, to, other_from, other_to] => Ok(Wiring::Double(
-                Control { near, far },
-                Channel { from, to },
-                Channel {
-                    from: other_from,
-                    to: other_to,
-                },
-            )),
+            ["links", links @ ..] => Ok(Wiring::Links(links)),
+            ["tcp"] => Ok(Wiring::Tcp),
             _ => Err(Trouble::Form),
         }
     }
@@ -75,45 +52,44 @@ fn link_of(alloc: Global, text: &str) -> Result<ScriptLink, Trouble>
     Ok(ScriptLink::of(alloc, inbox, room, numbers(alloc, fail)?, most)?)
 }
 
-/// The ends of links with one channel.
-pub fn single(
+// The links of so many channels: for each the source's and the destination's.
+#[tactic(auto, using(vfm_net::proofs::Rows::all_new_more))]
+fn rows_of(
     alloc: Global,
-    control: Control,
-    channel: Channel,
-) -> Result<Ends<ScriptLink>, Trouble>
-    ensures { IfOk result EndsAreNew }
+    links: &[&str],
+    channels: usize,
+) -> Result<(Vec<ScriptLink>, Vec<ScriptLink>), Trouble>
+    requires { 2 * channels ≤ length links.now }
+    ensures counts { IfOk result (λ rows. (vec_len rows.0 ≡ channels) × (vec_len rows.1 ≡ channels)) }
+    ensures source { IfOk result (λ rows. All IsNew (map script_told rows.0.items)) }
+    ensures dest { IfOk result (λ rows. All IsNew (map script_told rows.1.items)) }
 {
     let mut source = Vec::new(alloc);
-    source.push(link_of(alloc, channel.from)?)?;
     let mut dest = Vec::new(alloc);
-    dest.push(link_of(alloc, channel.to)?)?;
-    Ok(Ends {
-        source_control: link_of(alloc, control.near)?,
-        source,
-        dest_control: link_of(alloc, control.far)?,
-        dest,
-    })
+    for k in 0..channels {
+        source.push(link_of(alloc, links[2 * k])?)?;
+        dest.push(link_of(alloc, links[2 * k + 1])?)?;
+    }
+    Ok((source, dest))
 }
 
-/// The ends of links with two channels.
-pub fn double(
-    alloc: Global,
-    control: Control,
-    first: Channel,
-    second: Channel,
-) -> Result<Ends<ScriptLink>, Trouble>
+/// The ends of links that are written so: both for control, then for each channel the source's and the destination's.
+pub fn ends_of(alloc: Global, links: &[&str]) -> Result<Ends<ScriptLink>, Trouble>
     ensures { IfOk result EndsAreNew }
 {
-    let mut source = Vec::new(alloc);
-    source.push(link_of(alloc, first.from)?)?;
-    source.push(link_of(alloc, second.from)?)?;
-    let mut dest = Vec::new(alloc);
-    dest.push(link_of(alloc, first.to)?)?;
-    dest.push(link_of(alloc, second.to)?)?;
+    let [near, far, channels @ ..] = links else {
+        return Err(Trouble::Form);
+    };
+    if channels.len() % 2 != 0 {
+        return Err(Trouble::Form);
+    }
+    let source_control = link_of(alloc, near)?;
+    let dest_control = link_of(alloc, far)?;
+    let (source, dest) = rows_of(alloc, channels, channels.len() / 2)?;
     Ok(Ends {
-        source_control: link_of(alloc, control.near)?,
+        source_control,
         source,
-        dest_control: link_of(alloc, control.far)?,
+        dest_control,
         dest,
     })
 }

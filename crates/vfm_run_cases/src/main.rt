@@ -13,6 +13,7 @@ use crate::runs::{Case, answer_of};
 use crate::trouble::Trouble;
 use std::alloc::Global;
 use std::io;
+use std::net::Net;
 use std::sync::Wait;
 use std::thread::Threads;
 
@@ -34,12 +35,15 @@ fn text_of<'a>(machines: &'a [Machine], name: &str) -> Result<&'a str, Trouble> 
 }
 
 // what comes of a case
-fn tried<H: Threads + Wait + Sync>(
+fn tried<H: Threads + Wait + Sync + Net>(
     rt: &H,
     alloc: Global,
     machines: &[Machine],
     parts: &[&str],
-) -> Result<String, Trouble> {
+) -> Result<String, Trouble>
+where
+    H::Stream: Send,
+{
     let [name, machine, abort, shown, wiring @ ..] = parts else {
         return Err(Trouble::Form);
     };

@@ -1,12 +1,15 @@
 //! The run of a case: how it ended, a digest of what it printed, and what an audit says of that.
 
-use crate::links::{Wiring, double, single};
+use crate::links::{Wiring, ends_of};
 use crate::trouble::Trouble;
 use crate::words::pairs;
 use sha2::{Digest, Sha256};
 use std::alloc::Global;
+use std::net::Net;
 use std::sync::Wait;
 use std::thread::Threads;
+use std::time::Duration;
+use vfm_net::TcpWires;
 use vfm_outside::{MemSink, MemSource, NoBeat, RingWires, ScriptWires, Wires};
 use vfm_top::{number, run};
 
@@ -15,6 +18,9 @@ const ROOM: usize = 4_000_000;
 
 /// How many pieces a ring holds.
 const SLOTS: usize = 4_096;
+
+/// How many seconds a call on a socket may wait.
+const PATIENCE: u64 = 10;
 
 /// The most bytes of a read or a write.
 const MOST: u32 = 65_536;
@@ -82,24 +88,27 @@ fn moved<H: Threads + Wait + Sync, W: Wires>(
 }
 
 // the run of the case
-fn run_of<H: Threads + Wait + Sync>(
+fn run_of<H: Threads + Wait + Sync + Net>(
     rt: &H,
     alloc: Global,
     case: &Case,
-) -> Result<(u8, MemSink), Trouble> {
+) -> Result<(u8, MemSink), Trouble>
+where
+    H::Stream: Send,
+{
     match case.wiring {
         Wiring::Missing => moved(rt, alloc, case, &mut ScriptWires::of(alloc, None)),
         Wiring::Rings(calls) => {
             let calls = pairs(alloc, calls)?;
             moved(rt, alloc, case, &mut RingWires::of(alloc, SLOTS, 0, calls))
         }
-        Wiring::Single(control, channel) => {
-            let ends = single(alloc, control, channel)?;
+        Wiring::Links(links) => {
+            let ends = ends_of(alloc, links)?;
             moved(rt, alloc, case, &mut ScriptWires::of(alloc, Some(ends)))
         }
-        Wiring::Double(control, first, second) => {
-            let ends = double(alloc, control, first, second)?;
-            moved(rt, alloc, case, &mut ScriptWires::of(alloc, Some(ends)))
+        Wiring::Tcp => {
+            let mut wires = TcpWires::of(rt, alloc, Duration::from_secs(PATIENCE));
+            moved(rt, alloc, case, &mut wires)
         }
     }
 }
@@ -128,11 +137,14 @@ fn last_state(text: &str) -> &str {
 }
 
 /// What comes of a case: the number and the line of its status, the digest, and what the audit says.
-pub fn answer_of<H: Threads + Wait + Sync>(
+pub fn answer_of<H: Threads + Wait + Sync + Net>(
     rt: &H,
     alloc: Global,
     case: &Case,
-) -> Result<String, Trouble> {
+) -> Result<String, Trouble>
+where
+    H::Stream: Send,
+{
     let (ended, out) = run_of(rt, alloc, case)?;
     let Ok(text) = str::from_utf8(out.bytes()) else {
         return Err(Trouble::Form);
