@@ -97,7 +97,8 @@ impl Part {
         ensures lead { self ≡ lead_cell result }
         ensures fits { LeadFits desc.now result }
     {
-        match self.kind {
+        let Part { kind } = self;
+        match kind {
             Kind::Lead(lead) => lead,
             _ => unreachable!(),
         }
