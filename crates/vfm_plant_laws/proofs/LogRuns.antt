@@ -1,21 +1,18 @@
 -- The log of a board over the cells of a machine is one run of it.
-use Rattle.std.proofs.Common.{◌≡◌, ℕ, zero, suc, ◌+◌, ◌-◌, ◌<◌, ◌≤◌, true, List, [], ◌∷◌, map, length, drop, refl, ap, ap₂, sym, subst, ◌∙◌, arith, Some}
-use Rattle.std.specs.List.{All, slice_get}
+use Rattle.std.proofs.Common.{◌≡◌, ℕ, ◌-◌, ◌<◌, List, [], ◌∷◌, map, length, sym, subst, ◌∙◌, arith}
 use Rattle.vfm_types.specs.declared.desc.Desc.{Desc}
 use Rattle.vfm_parts.specs.Parts.{World}
-use Rattle.vfm_turn.specs.declared.seen.Stand.{Stand}
 use Rattle.vfm_turn.specs.declared.seen.Drawn.{Drawn}
 use Rattle.vfm_turn.specs.declared.seen.Note.{Note}
-use Rattle.vfm_turn.specs.declared.seen.Past.{Past}
 use Rattle.vfm_turn.specs.Log.{Each, state_after, Ran, drawn_by, earlier, Stood, IsNote, IsPast}
 use Rattle.vfm_turn.specs.History.{Closing, BeganAt, IsLogOf, past_number}
 use Rattle.vfm_turn.proofs.Lists.{each_weaken, each_all}
 use Rattle.vfm_turn.proofs.Runs.{all_each, each_seat, of_ticket, get_some}
 use Rattle.vfm_cells.specs.Cells.{Cell, cell_at, cell_count, IsWhole}
-use Rattle.vfm_cells.specs.WholeRun.{AreSteps, IsStep, entries_of, IsWholeRun}
+use Rattle.vfm_cells.specs.WholeRun.{AreSteps, IsStep, IsWholeRun}
 use Rattle.vfm_cells.proofs.WholeRuns.{before_is, whole_run, earlier_run}
 use Rattle.vfm_cells.proofs.Whole.{after_whole}
-use Rattle.vfm_plant_laws.specs.OneRun.{AreIn, AreFound, AreAllSteps, AreCellsOf, IsRunOf, IsTrueNote, world_then}
+use Rattle.vfm_plant_laws.specs.OneRun.{AreFound, AreAllSteps, AreCellsOf, IsRunOf, IsTrueNote, world_then}
 
 -- each entry found what the world had
 found : (D : Desc) (w : World) (log : List (Drawn Cell)) → IsWhole D w → Ran (cell_count D) (cell_at D w) log → AreSteps D log → AreFound D w log
@@ -34,7 +31,7 @@ note_true D w log whole ran steps note is =
     let run = earlier_run D w log (length log - note.answer) whole ran steps in (
       is.0,
       each_weaken (Stood (cell_count D) (cell_at D w) log note.answer) (λ s. (s.cell < cell_count D) × (s.state ≡ cell_at D (world_then D w (earlier note.answer log)) s.cell))
-      (λ s h. (h.0, h.1 ∙ sym (run.cells s.cell h.0))) note.stands is.1,
+          (λ s h. (h.0, h.1 ∙ sym (run.cells s.cell h.0))) note.stands is.1,
     )
 
 -- a log of a board that was started with the cells of a world

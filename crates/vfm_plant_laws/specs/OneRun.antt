@@ -1,7 +1,6 @@
 -- A board over the cells of a machine, once it is closed, as one run of the whole machine.
-use Rattle.std.specs.Prelude.{◌≡◌, ℕ, ◌<◌, ◌≤◌, true, List, [], ◌∷◌, ◌++◌, length, map, reverse, slice_get, Some, All}
+use Rattle.std.specs.Prelude.{◌≡◌, ℕ, ◌<◌, ◌≤◌, true, List, [], ◌∷◌, length, map, slice_get, Some, All}
 use Rattle.vfm_types.specs.declared.desc.Desc.{Desc}
-use Rattle.vfm_types.specs.declared.entry.Entry.{Entry}
 use Rattle.vfm_parts.specs.Parts.{World}
 use Rattle.vfm_turn.specs.declared.seen.Stand.{Stand}
 use Rattle.vfm_turn.specs.declared.seen.Touch.{Touch}
@@ -11,8 +10,8 @@ use Rattle.vfm_turn.specs.declared.seen.Past.{Past}
 use Rattle.vfm_turn.specs.Log.{Each, drawn_by, earlier}
 use Rattle.vfm_turn.specs.Order.{has}
 use Rattle.vfm_turn.specs.History.{past_number}
-use Rattle.vfm_cells.specs.Cells.{Cell, cell_at, cell_count, IsWhole}
-use Rattle.vfm_cells.specs.WholeRun.{AreSteps, IsRunFrom, IsStep, entries_of, touch_before, touch_cell, world_after}
+use Rattle.vfm_cells.specs.Cells.{Cell, cell_at, cell_count}
+use Rattle.vfm_cells.specs.WholeRun.{AreSteps, IsRunFrom, entries_of, touch_before, touch_cell, world_after}
 
 -- these states lie in their cells of the world
 abbrev pub AreIn : Desc → World → List (Stand Cell) → Type 0
