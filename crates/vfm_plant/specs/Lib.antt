@@ -1,1 +1,3 @@
 pub mod Hands
+pub mod Outcome
+pub mod Started

@@ -1,10 +1,13 @@
 //! The cells that a seat holds while it makes a step, and how the step is drawn on them.
 
-ghost use Rattle.std.specs.Prelude.{◌≡◌, ◌<◌, ◌^◌, ℕ, true, [], length, vec_capacity};
+ghost use Rattle.std.specs.Prelude.{◌≡◌, ◌<◌, ◌≤◌, ◌^◌, ◌==◌, ◌∷◌, ℕ, true, false, [], length, vec_capacity};
 ghost use Rattle.vfm_turn.specs.Order.{are_once};
-ghost use Rattle.vfm_turn.specs.Seen.{are_rising};
+ghost use Rattle.vfm_turn.specs.Seen.{are_rising, hold, touch};
 ghost use Rattle.vfm_turn.specs.Words.{IsTicketOf, desc_of, holds_of, number_of, records_of, seen_of};
 ghost use Rattle.vfm_cells.specs.Cells.{Cell};
+ghost use Rattle.vfm_cells.specs.CellFits.{CellFits};
+ghost use Rattle.vfm_cells.specs.Touched.{in_order};
+ghost use Rattle.vfm_cell_steps.specs.Made.{two_cells};
 ghost use Rattle.vfm_plant.specs.Hands.{AreAmong, AreFitting, AreParts, IsHolding, IsMaking, at_rest, cells_held, held, touches_by, turned, with_holds};
 
 use vfm_cell_steps::Part;
@@ -70,4 +73,70 @@ pub(crate) fn turn(
     let stamp = board.draw(t, *e, cells);
     leave_all(board, t, hands);
     stamp
+}
+
+// the entry once more
+pub(crate) fn again(e: &Entry) -> Entry
+    ensures { result ≡ e.now }
+{
+    *e
+}
+
+// The same for an entry on one held cell, in which this part now lies.
+pub(crate) fn draw_one(
+    board: &Board<Part>,
+    t: &mut Ticket<Part>,
+    hands: &mut Vec<Hand>,
+    hand: Hand,
+    e: &Entry,
+) -> u64
+    requires ticket { IsTicketOf board.now t.old }
+    requires hands { (hands.old.items ≡ []) × (1 ≤ vec_capacity hands.old) }
+    requires fits { CellFits (desc_of board.now) hand.cell hand.part }
+    requires few { length (records_of t.old) < 2 ^ 32 }
+    requires held { (before : Cell) × (holds_of t.old ≡ hold hand.cell before before ∷ []) }
+    ensures ticket { IsTicketOf board.now t.new × (number_of t.new ≡ number_of t.old) }
+    ensures turned { (before : Cell) → holds_of t.old ≡ hold hand.cell before before ∷ []
+        → seen_of t.new ≡ turned (number_of t.old) result e.now (touch hand.cell before hand.part ∷ []) (seen_of t.old) }
+    ensures bounded { result < 2 ^ 39 }
+    ensures hands { (hands.new.items ≡ []) × (vec_capacity hands.new ≡ vec_capacity hands.old) }
+{
+    let cells = [hand.cell];
+    hands.push_reserved(hand);
+    turn(board, t, hands, &cells, e)
+}
+
+// The same for an entry on two held cells, in which these parts now lie.
+pub(crate) fn draw_two(
+    board: &Board<Part>,
+    t: &mut Ticket<Part>,
+    hands: &mut Vec<Hand>,
+    one: Hand,
+    two: Hand,
+    e: Entry,
+) -> u64
+    requires ticket { IsTicketOf board.now t.old }
+    requires hands { (hands.old.items ≡ []) × (2 ≤ vec_capacity hands.old) }
+    requires other { (one.cell == two.cell) ≡ false }
+    requires fits { CellFits (desc_of board.now) one.cell one.part × CellFits (desc_of board.now) two.cell two.part }
+    requires few { length (records_of t.old) < 2 ^ 32 }
+    requires held { (this that : Cell) × (holds_of t.old ≡ hold one.cell this this ∷ hold two.cell that that ∷ []) }
+    ensures ticket { IsTicketOf board.now t.new × (number_of t.new ≡ number_of t.old) }
+    ensures turned { (this that : Cell) → holds_of t.old ≡ hold one.cell this this ∷ hold two.cell that that ∷ []
+        → seen_of t.new ≡ turned (number_of t.old) result e
+        (touches_by (two_cells one.cell this that) (two_cells one.cell one.part two.part) (in_order one.cell two.cell)) (seen_of t.old) }
+    ensures bounded { result < 2 ^ 39 }
+    ensures hands { (hands.new.items ≡ []) × (vec_capacity hands.new ≡ vec_capacity hands.old) }
+{
+    let a = one.cell;
+    let b = two.cell;
+    hands.push_reserved(one);
+    hands.push_reserved(two);
+    if a < b {
+        let cells = [a, b];
+        turn(board, t, hands, &cells, &e)
+    } else {
+        let cells = [b, a];
+        turn(board, t, hands, &cells, &e)
+    }
 }

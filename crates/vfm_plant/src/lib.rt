@@ -2,4 +2,10 @@
 //! it at once. Each has a seat; what all seats did is one run of the core.
 #![tactic(auto)]
 
+mod device;
 mod hand;
+mod plant;
+mod stepped;
+
+pub use plant::Plant;
+pub use stepped::{Look, Stepped, Wish};
