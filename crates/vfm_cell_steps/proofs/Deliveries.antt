@@ -1,5 +1,5 @@
 -- A delivery on the cell of its device and on that of its target.
-use Rattle.std.proofs.Common.{◌≡◌, ℕ, ◌+◌, ◌<◌, ◌==◌, Bool, true, false, nat_lt, if◌then◌else◌, List, [], ◌∷◌, map, Some, None, refl, ap, ap₂, sym, subst, ◌∙◌, arith, eqb-true, lt-ltb}
+use Rattle.std.proofs.Common.{◌≡◌, ℕ, ◌+◌, ◌<◌, ◌==◌, Bool, true, false, nat_lt, if◌then◌else◌, List, [], ◌∷◌, map, Some, None, refl, ap, ap₂, sym, subst, ◌∙◌, arith, lt-ltb}
 use Rattle.std.proofs.lemmas.Bool.{eq-eqb, ne_eqb, eqb-false, cond-true, cond-false}
 use Rattle.vfm_types.specs.declared.desc.Desc.{Desc}
 use Rattle.vfm_types.specs.declared.entry.Entry.{Entry}
@@ -8,18 +8,18 @@ use Rattle.vfm_types.specs.declared.job.Region.{Region}
 use Rattle.vfm_types.specs.declared.job.Region.TheVariants.{Page, Bar}
 use Rattle.vfm_types.specs.Desc.{device_count}
 use Rattle.vfm_types.specs.Outstanding.{is_undelivered}
-use Rattle.vfm_parts.specs.Parts.{Dev, Parts, World, parts_in, dev_at, page_at, no_dev, listed}
+use Rattle.vfm_parts.specs.Parts.{Dev, World, parts_in, dev_at, page_at, no_dev, listed}
 use Rattle.vfm_parts.specs.Start.{first_lead}
 use Rattle.vfm_parts.specs.DeliverStep.{delivered_dev, job_in, page_after_job, region_of_job, struck_dev}
 use Rattle.vfm_parts.specs.Steps.{after_on, dev_after, page_after, parts_after, with_dev}
 use Rattle.vfm_parts.proofs.Listed.{listed_at, length-listed}
 use Rattle.vfm_laws.proofs.Rising.{by_bool}
 use Rattle.vfm_laws.proofs.Walks.{some_none}
-use Rattle.vfm_device_part.specs.DeviceSteps.{delivered_job, issuer_after, own_fault, target_in, with_page}
+use Rattle.vfm_device_part.specs.DeviceSteps.{delivered_job, issuer_after, own_fault, target_in}
 use Rattle.vfm_device_part.proofs.Deliveries.{waits_fine, aimed_is}
-use Rattle.vfm_device_part.proofs.Entries.{fault_is, to_device_is, no_page_is, to_page_is, no_device_is}
-use Rattle.vfm_cells.specs.Cells.{Cell, device_cell, page_cell, dev_number, page_number, region_number, cell_in, cell_at, IsWhole}
-use Rattle.vfm_cells.specs.Touched.{touched, in_order, is_aimed, aim, has_region}
+use Rattle.vfm_device_part.proofs.Entries.{fault_is, to_device_is, to_page_is, no_device_is}
+use Rattle.vfm_cells.specs.Cells.{Cell, device_cell, page_cell, dev_number, page_number, region_number, cell_at, IsWhole}
+use Rattle.vfm_cells.specs.Touched.{in_order, aim, has_region}
 use Rattle.vfm_cells.specs.CellSteps.{step_of}
 use Rattle.vfm_cells.proofs.Whole.{cell_dev, cell_page, after_cell, dev_below, page_below, step_made}
 use Rattle.vfm_cell_steps.specs.Made.{IsMade, two_cells, cells_of_delivery, IsDelivered}
@@ -69,7 +69,7 @@ delivered D d n region dev page own target own' target' inside there other told 
     let aimed : aim D d n (dev_at w d) ≡ region = ap (aim D d n) same ∙ aimed_is D d n (dev d) region told in
     let fine : own_fault D (Deliver d n) (dev_at w d) ≡ None = ap (own_fault D (Deliver d n)) same ∙ fine_of D d n (dev d) region told in
     let step = step_made D w (Deliver d n) (whole_by D dev page) (lt-ltb d (device_count D) inside) (ap (has_region D) aimed ∙ there)
-        (fault_is D (parts_in w) d (Deliver d n) (eq-eqb d d refl) ∙ fine) in
+    (fault_is D (parts_in w) d (Deliver d n) (eq-eqb d d refl) ∙ fine) in
     let moved : IsMade D (Deliver d n) (cells_of_delivery D d region) (cell_at D w) (cell_at D v) =
     subst (λ (cells : List ℕ). IsMade D (Deliver d n) cells (cell_at D w) (cell_at D v)) (ap (λ (r : Region). cells_of_delivery D d r) aimed) step in
     let here : (x y : Cell) → x ≡ two_cells (dev_number d) x y (dev_number d) = λ x y. sym (cond-true _ _ _ (eq-eqb (d + 1) (d + 1) refl)) in

@@ -1,27 +1,24 @@
 -- An entry of the coordinator on the cells of the coordinator and the devices.
-use Rattle.std.proofs.Common.{◌≡◌, ℕ, ◌+◌, ◌<◌, Bool, true, false, List, [], ◌∷◌, map, length, Result, Ok, Err, Some, None, IsTrue, refl, ap, ap₂, sym, subst, ◌∙◌, arith}
+use Rattle.std.proofs.Common.{◌≡◌, ℕ, true, List, [], map, length, Result, Ok, Err, None, IsTrue, refl, ap, ap₂, sym, subst, ◌∙◌}
 use Rattle.std.specs.Result.{OnOk, OnErr, MatchResult}
 use Rattle.std.proofs.lemmas.Bool.{false≢true}
 use Rattle.vfm_types.specs.declared.desc.Desc.{Desc}
 use Rattle.vfm_types.specs.declared.entry.Entry.{Entry}
 use Rattle.vfm_types.specs.declared.entry.Entry.TheVariants.{Issue, Deliver, Complete, Hold, Arc, Fail, Report, Pass, Copy, Block, Dry, Begin, Joint, Abort, Resume}
-use Rattle.vfm_types.specs.declared.entry.Rule.{Rule}
 use Rattle.vfm_types.specs.Desc.{device_count}
 use Rattle.vfm_plain.specs.Legal.{is_entry_of}
-use Rattle.vfm_parts.specs.Parts.{Dev, Lead, World, Parts, parts_in, listed, dev_at, page_at}
+use Rattle.vfm_parts.specs.Parts.{Dev, Lead, World, Parts, parts_in, listed}
 use Rattle.vfm_parts.specs.Fits.{PartsFit, PageFits}
 use Rattle.vfm_parts.specs.Steps.{after_on, fault_on}
 use Rattle.vfm_parts.proofs.Listed.{listed_at, length-listed}
 use Rattle.vfm_parts_laws.proofs.FittingWorlds.{step_world_fits}
-use Rattle.vfm_device_part.specs.declared.steps.Guard.{Guard}
-use Rattle.vfm_lead.specs.LeadSteps.{AreSound, DevsFit, dev_of_list, devs_made, is_copy, is_of_lead, lead_fault, lead_made}
+use Rattle.vfm_lead.specs.LeadSteps.{AreSound, devs_made, is_copy, is_of_lead, lead_fault, lead_made}
 use Rattle.vfm_core.proofs.LeadWorlds.{lead_judged, lead_steps, copy_steps}
-use Rattle.vfm_turn.specs.Order.{has}
-use Rattle.vfm_cells.specs.Cells.{cell_at, cell_count, IsWhole}
+use Rattle.vfm_cells.specs.Cells.{cell_at, IsWhole}
 use Rattle.vfm_cells.specs.CellSteps.{IsStepOf}
 use Rattle.vfm_cells.specs.Touched.{touched, is_aimed}
 use Rattle.vfm_cells.proofs.Whole.{step_made, step_told}
-use Rattle.vfm_cell_steps.specs.Made.{IsMade, IsStepTo, group}
+use Rattle.vfm_cell_steps.specs.Made.{IsStepTo, group}
 
 -- an entry that breaks no rule, to the world after it
 stepped : (D : Desc) (w v : World) (entry : Entry) → IsWhole D w → is_entry_of D entry ≡ true → is_aimed D (parts_in w) entry ≡ true → fault_on D w entry ≡ None
@@ -90,7 +87,7 @@ sound_after : (D : Desc) (lead lead' : Lead) (devs devs' : List Dev) (bytes : Li
     → group D lead' devs' bytes ≡ after_on D (group D lead devs bytes) entry → AreSound D lead' devs'
 sound_after D lead lead' devs devs' bytes entry size sound named fine is =
     let fits : PartsFit D (parts_in (group D lead' devs' bytes)) = subst (λ (w : World). PartsFit D (parts_in w)) (sym is)
-        (step_world_fits D (group D lead devs bytes) entry sound.valid (blank_fits D lead devs bytes size sound) named fine) in
+    (step_world_fits D (group D lead devs bytes) entry sound.valid (blank_fits D lead devs bytes size sound) named fine) in
     record {
       valid = sound.valid;
       lead_fits = fits.lead;

@@ -1,16 +1,13 @@
 -- Held cells: shown one after the other, drawn on, and left one after the other.
-use Rattle.std.proofs.Common.{◌≡◌, ℕ, zero, suc, ◌+◌, ◌<◌, ◌==◌, ◌||◌, ◌&&◌, not, Bool, true, false, if◌then◌else◌, List, [], ◌∷◌, ◌++◌, map, length, take, get_or, refl, ap, ap₂, sym, subst, ◌∙◌, arith, eqb-true}
+use Rattle.std.proofs.Common.{◌≡◌, ℕ, zero, suc, ◌<◌, ◌==◌, ◌||◌, ◌&&◌, not, Bool, true, false, if◌then◌else◌, List, [], ◌∷◌, ◌++◌, map, length, take, get_or, refl, ap, ap₂, sym, subst, ◌∙◌, arith, eqb-true}
 use Rattle.std.proofs.lemmas.Bool.{eq-eqb, ne_eqb, eqb-false, cond-true, cond-false, false≢true, and_parts, or_parts}
-use Rattle.std.specs.List.{All}
-use Rattle.vfm_types.specs.declared.entry.Entry.{Entry}
 use Rattle.vfm_turn.specs.declared.seen.Touch.{Touch}
-use Rattle.vfm_turn.specs.Log.{Each}
 use Rattle.vfm_turn.specs.Order.{has, are_once}
-use Rattle.vfm_turn.specs.Seen.{Hold, Seen, hold, touch, is_held, are_held, IsSettled, show_in, without, touch_in, touches_in, after_in, settle}
+use Rattle.vfm_turn.specs.Seen.{Hold, hold, touch, is_held, are_held, IsSettled, show_in, without, touch_in, touches_in, after_in, settle}
 use Rattle.vfm_laws.proofs.Rising.{by_bool}
 use Rattle.vfm_cells.specs.Cells.{Cell}
 use Rattle.vfm_plant.specs.declared.hand.Hand.{Hand}
-use Rattle.vfm_plant.specs.Hands.{hand_cell, cells_held, held, AreParts, touches_by, AreAmong, rest_of, IsMaking}
+use Rattle.vfm_plant.specs.Hands.{hand_cell, cells_held, held, AreParts, touches_by, AreAmong, rest_of}
 
 -- ---- shown
 

@@ -1,24 +1,21 @@
 -- Turns on one or two held cells, and what came of them.
-use Rattle.std.proofs.Common.{◌≡◌, ◌≢◌, ℕ, ◌+◌, ◌-◌, ◌%◌, length, ◌<◌, ◌≤◌, ◌==◌, ◌||◌, ◌⊎◌, inl, inr, Bool, true, false, nat_lt, if◌then◌else◌, List, [], ◌∷◌, ◌++◌, map, Option, Some, None, refl, ap, ap₂, sym, subst, ◌∙◌, arith, eqb-true, lt-ltb}
-use Rattle.std.proofs.lemmas.Bool.{eq-eqb, ne_eqb, eqb-false, cond-true, cond-false, false≢true, le-ltb}
+use Rattle.std.proofs.Common.{◌≡◌, ◌≢◌, ℕ, ◌+◌, ◌-◌, ◌%◌, length, ◌<◌, ◌≤◌, ◌==◌, ◌||◌, inl, inr, Bool, true, false, List, [], ◌∷◌, map, Some, None, refl, ap, ap₂, sym, subst, ◌∙◌, arith, eqb-true, lt-ltb}
+use Rattle.std.proofs.lemmas.Bool.{eq-eqb, cond-true, cond-false, false≢true, le-ltb}
 use Rattle.vfm_types.specs.declared.desc.Desc.{Desc}
 use Rattle.vfm_types.specs.declared.look.DevLook.{DevLook}
 use Rattle.vfm_types.specs.declared.entry.Entry.{Entry}
 use Rattle.vfm_types.specs.declared.entry.Entry.TheVariants.{Issue, Deliver, Complete, Hold, Arc, Fail, Report, Pass, Copy, Block, Dry, Begin, Joint, Abort, Resume}
 use Rattle.vfm_types.specs.declared.job.Region.{Region}
-use Rattle.vfm_types.specs.declared.job.Region.TheVariants.{Page, Bar}
 use Rattle.vfm_types.specs.Desc.{device_count}
 use Rattle.vfm_parts.specs.Parts.{Dev, World, dev_at, parts_in}
 use Rattle.vfm_parts.specs.Fits.{DevFits}
 use Rattle.vfm_device_part.proofs.AllowedSteps.{Allowed, enabled_allowed}
 use Rattle.vfm_parts_laws.specs.LooksIn.{look_in}
 use Rattle.vfm_turn.specs.declared.seen.Busy.{Busy}
-use Rattle.vfm_turn.specs.declared.seen.Stand.{Stand}
-use Rattle.vfm_turn.specs.declared.seen.Touch.{Touch}
 use Rattle.vfm_turn.specs.Order.{has}
-use Rattle.vfm_turn.specs.Seen.{Hold as Holding, Seen, hold, touch, is_held, left, noted, note, met, settled_of, without, entered}
+use Rattle.vfm_turn.specs.Seen.{Hold as Holding, Seen, hold, is_held, left, noted, note, met, settled_of}
 use Rattle.vfm_laws.proofs.Rising.{by_bool}
-use Rattle.vfm_cells.specs.Cells.{Cell, lead_cell, device_cell, page_cell, dev_or_none, dev_number, region_number, cell_at, cell_count}
+use Rattle.vfm_cells.specs.Cells.{Cell, lead_cell, device_cell, page_cell, dev_or_none, dev_number, region_number, cell_at}
 use Rattle.vfm_cells.specs.CellFits.{CellFits}
 use Rattle.vfm_cells.specs.Touched.{in_order}
 use Rattle.vfm_cells.specs.CellSteps.{step_of}
@@ -35,8 +32,8 @@ use Rattle.vfm_plant.specs.declared.stepped.Wish.TheVariants as wish
 use Rattle.vfm_plant.specs.declared.stepped.Look.TheVariants as look
 use Rattle.vfm_plant.specs.declared.stepped.Stepped.{Stepped}
 use Rattle.vfm_plant.specs.declared.stepped.Stepped.TheVariants as stepped
-use Rattle.vfm_plant.specs.Hands.{cells_held, held, touches_by, turned, looked, IsMaking}
-use Rattle.vfm_plant.specs.Outcome.{Attempt, HasDrawn, HasLooked, HasMet, HasMetAtOnce, HasMetFurther, IsOutcome, IsOtherCell, IsOwnCell, IsSeen, IsWished, bytes_read, step_in}
+use Rattle.vfm_plant.specs.Hands.{touches_by, turned, looked, IsMaking}
+use Rattle.vfm_plant.specs.Outcome.{Attempt, HasDrawn, HasLooked, HasMet, IsOutcome, IsOtherCell, IsOwnCell, IsSeen, IsWished, bytes_read}
 
 both_ways : {X : Type 0} (b : Bool) → b ≡ true → b ≡ false → X
 both_ways b is not = absurd (false≢true (sym not ∙ is))
@@ -317,7 +314,7 @@ outcome_from a s holds r is out =
           met = elim o.met [
             | inl x ↦ inl (record { seen = x.seen; own = x.own })
             | inr x ↦ inr (record { answer = x.answer; holds = x.holds; seen = x.seen; other = x.other })
-            ];
+          ];
           seat = o.seat;
           another = o.another;
           bytes = o.bytes;

@@ -1,16 +1,11 @@
 -- What a seat holds while it makes a step: cells, each with the part that lies in it.
-use Rattle.std.specs.Prelude.{◌≡◌, ℕ, ◌==◌, true, false, if◌then◌else◌, List, [], ◌∷◌, map, All}
+use Rattle.std.specs.Prelude.{◌≡◌, ℕ, true, false, List, [], ◌∷◌, map, All}
 use Rattle.vfm_types.specs.declared.desc.Desc.{Desc}
 use Rattle.vfm_types.specs.declared.entry.Entry.{Entry}
-use Rattle.vfm_turn.specs.declared.board.Board.{Board}
-use Rattle.vfm_turn.specs.declared.ticket.Ticket.{Ticket}
-use Rattle.vfm_turn.specs.declared.kept.Kept.{Ghosts}
-use Rattle.vfm_turn.specs.declared.seen.Busy.{Busy}
 use Rattle.vfm_turn.specs.declared.seen.Touch.{Touch}
 use Rattle.vfm_turn.specs.Log.{Each}
 use Rattle.vfm_turn.specs.Order.{has, are_once}
 use Rattle.vfm_turn.specs.Seen.{Hold, Seen, hold, touch, drawn, note, settled_of}
-use Rattle.vfm_turn.specs.Words.{IsTicketOf, desc_of, holds_of}
 use Rattle.vfm_cells.specs.Cells.{Cell}
 use Rattle.vfm_cells.specs.CellFits.{CellFits}
 use Rattle.vfm_plant.specs.declared.hand.Hand.{Hand}

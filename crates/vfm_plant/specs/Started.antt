@@ -1,6 +1,5 @@
 -- The core that a plant was started with, and what a plant keeps.
-use Rattle.std.specs.Prelude.{◌≡◌, ℕ, ◌+◌, ◌<◌, ◌≤◌, ◌^◌, List, [], length, map, All, vec_len, vec_capacity}
-use Rattle.vfm_types.specs.declared.entry.Entry.{Entry}
+use Rattle.std.specs.Prelude.{◌≡◌, ℕ, ◌<◌, ◌^◌, length}
 use Rattle.vfm_types.specs.Valid.{IsValid}
 use Rattle.vfm_turn.specs.Words.{cells_of, desc_of, started_of}
 use Rattle.vfm_cells.specs.Cells.{Cell, cell_count}

@@ -1,5 +1,5 @@
 -- The entry is one on the world of the group.
-use Rattle.std.proofs.Common.{◌≡◌, List, ℕ, None}
+use Rattle.std.proofs.Common.{◌≡◌}
 use Rattle.vfm_cell_steps.proofs.Groups.{one_ok, one_either, copy_group_steps, copy_sound}
 use Rattle.vfm_cell_steps.proofs.group.step_copied.Goals as goal
 

@@ -1,6 +1,5 @@
 -- The entry is one on the world of the group.
-use Rattle.std.proofs.Common.{◌≡◌, List, ℕ, None}
-use Rattle.vfm_lead.specs.LeadSteps.{AreSound, lead_fault}
+use Rattle.std.proofs.Common.{◌≡◌}
 use Rattle.vfm_cell_steps.proofs.Groups.{at_ok, at_err, either, group_steps, group_sound}
 use Rattle.vfm_cell_steps.proofs.group.step_group.Goals as goal
 

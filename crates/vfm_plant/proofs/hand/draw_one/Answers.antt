@@ -1,7 +1,6 @@
 -- One cell is held.
-use Rattle.std.proofs.Common.{◌≡◌, ℕ, List, [], ◌∷◌, ◌++◌, ap, ◌∙◌}
+use Rattle.std.proofs.Common.{◌≡◌, List, [], ◌∷◌, ◌++◌, ap, ◌∙◌}
 use Rattle.vfm_turn.specs.Words.{holds_of}
-use Rattle.vfm_cells.specs.Cells.{Cell}
 use Rattle.vfm_plant.specs.declared.hand.Hand.{Hand}
 use Rattle.vfm_plant.proofs.Turns.{one_making}
 use Rattle.vfm_plant.proofs.hand.draw_one.Goals as goal

@@ -1,11 +1,9 @@
 -- Two cells are held.
-use Rattle.std.proofs.Common.{◌≡◌, ℕ, ◌==◌, false, List, [], ◌∷◌, ◌++◌, ap, sym, ◌∙◌}
-use Rattle.vfm_turn.specs.Order.{has}
+use Rattle.std.proofs.Common.{◌≡◌, ℕ, List, [], ◌∷◌, ◌++◌, ap, sym, ◌∙◌}
 use Rattle.vfm_turn.specs.Words.{holds_of, number_of, seen_of}
-use Rattle.vfm_cells.specs.Cells.{Cell}
 use Rattle.vfm_cell_steps.specs.Made.{two_cells}
 use Rattle.vfm_plant.specs.declared.hand.Hand.{Hand}
-use Rattle.vfm_plant.specs.Hands.{touches_by, turned, IsMaking}
+use Rattle.vfm_plant.specs.Hands.{touches_by, turned}
 use Rattle.vfm_plant.proofs.Turns.{two_making, order_low, order_high, has_swapped}
 use Rattle.vfm_plant.proofs.hand.draw_two.Goals as goal
 
@@ -15,8 +13,7 @@ turn-requires-clause-making c =
     let two = c.args.two in
     let is : c.push_reserved-2.new.self.items ≡ one ∷ two ∷ [] =
     c.push_reserved-2.ensures.items ∙ (ap (λ (hs : List Hand). hs ++ two ∷ []) (c.push_reserved.ensures.items ∙ ap (λ (hs : List Hand). hs ++ one ∷ []) c.requires.hands.0)) in
-    let w = c.requires.held in
-    (
+    let w = c.requires.held in (
       two_cells one.cell w.0 w.1,
       two_cells one.cell one.part two.part,
       two_making (holds_of c.args.t.now) c.push_reserved-2.new.self.items one two w.0 w.1 (one.cell ∷ two.cell ∷ []) is c.requires.other w.2 (λ k among. among),
@@ -28,8 +25,7 @@ turn-requires-else-a-b-clause-making c =
     let two = c.args.two in
     let is : c.push_reserved-2.new.self.items ≡ one ∷ two ∷ [] =
     c.push_reserved-2.ensures.items ∙ (ap (λ (hs : List Hand). hs ++ two ∷ []) (c.push_reserved.ensures.items ∙ ap (λ (hs : List Hand). hs ++ one ∷ []) c.requires.hands.0)) in
-    let w = c.requires.held in
-    (
+    let w = c.requires.held in (
       two_cells one.cell w.0 w.1,
       two_cells one.cell one.part two.part,
       two_making (holds_of c.args.t.now) c.push_reserved-2.new.self.items one two w.0 w.1 (two.cell ∷ one.cell ∷ []) is c.requires.other w.2

@@ -1,5 +1,5 @@
 -- The last hand is left, and those before it are what is held.
-use Rattle.std.proofs.Common.{◌≡◌, List, map, sym, ap, ◌∙◌}
+use Rattle.std.proofs.Common.{List, map, ap, ◌∙◌}
 use Rattle.vfm_turn.specs.Seen.{Hold, Seen}
 use Rattle.vfm_turn.specs.Words.{desc_of, holds_of, seen_of}
 use Rattle.vfm_turn.proofs.Closes.{all_parts}
@@ -28,7 +28,7 @@ loop-hand-preserved c =
       c.leave.ensures.ticket.0,
       c.leave.ensures.ticket.1 ∙ i.1,
       c.leave.ensures.seen
-      ∙ (ap (λ (hs : List (Hold Cell)). with_holds hs (seen_of c.loop-hand.t)) last.without ∙ ap (with_holds (map rest_of rest)) i.2),
+          ∙ (ap (λ (hs : List (Hold Cell)). with_holds hs (seen_of c.loop-hand.t)) last.without ∙ ap (with_holds (map rest_of rest)) i.2),
       last.once,
       (all_parts (λ (h : Hand). CellFits (desc_of c.args.board.now) h.cell h.part) rest c.loop-hand.hands.items c.in-Some.hand c.in-Some.ensures.items i.4).0,
       c.in-Some.ensures.capacity ∙ i.5,

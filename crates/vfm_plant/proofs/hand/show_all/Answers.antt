@@ -1,5 +1,5 @@
 -- One more hand is shown.
-use Rattle.std.proofs.Common.{◌≡◌, ℕ, suc, ◌+◌, ◌<◌, ◌≤◌, List, length, take, get_or, map, sym, ap, ◌∙◌, arith}
+use Rattle.std.proofs.Common.{◌≡◌, ℕ, suc, ◌+◌, ◌<◌, List, length, take, get_or, ap, ◌∙◌, arith}
 use Rattle.vfm_turn.specs.Seen.{Hold, Seen, is_held, shown}
 use Rattle.vfm_turn.specs.Words.{seen_of}
 use Rattle.vfm_turn.proofs.Closes.{take_all}

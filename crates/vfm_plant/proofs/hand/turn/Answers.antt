@@ -1,10 +1,10 @@
 -- All hands are shown, the entry is drawn, and all are left.
-use Rattle.std.proofs.Common.{◌≡◌, ℕ, ◌<◌, List, [], map, length, sym, ap, ◌∙◌, arith}
+use Rattle.std.proofs.Common.{◌≡◌, ℕ, List, length, ap, ◌∙◌, arith}
 use Rattle.vfm_turn.specs.declared.seen.Touch.{Touch}
 use Rattle.vfm_turn.specs.Seen.{Hold, Seen, are_held, settle, touches_in}
 use Rattle.vfm_turn.specs.Words.{holds_of, number_of, seen_of, records_of}
 use Rattle.vfm_cells.specs.Cells.{Cell}
-use Rattle.vfm_plant.specs.Hands.{at_rest, cells_held, held, touches_by, turned, with_holds}
+use Rattle.vfm_plant.specs.Hands.{at_rest, cells_held, held, touches_by, turned}
 use Rattle.vfm_plant.proofs.Holds.{all_held, touches_held, settled_held, rest_held}
 use Rattle.vfm_plant.proofs.hand.turn.Goals as goal
 

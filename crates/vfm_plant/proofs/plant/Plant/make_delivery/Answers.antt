@@ -1,5 +1,5 @@
 -- Both cells are held, and drawn on.
-use Rattle.std.proofs.Common.{◌≡◌, ℕ, ◌+◌, ◌∷◌, [], refl, ap, sym, ◌∙◌}
+use Rattle.std.proofs.Common.{ℕ, ◌+◌, ◌∷◌, [], refl, ap, sym, ◌∙◌}
 use Rattle.vfm_turn.specs.Seen.{hold}
 use Rattle.vfm_plant.specs.declared.stepped.Wish.TheVariants as wish
 use Rattle.vfm_plant.specs.Outcome.{attempted}

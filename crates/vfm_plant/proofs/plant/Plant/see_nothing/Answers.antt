@@ -1,10 +1,9 @@
 -- One cell is held, noted and left.
-use Rattle.std.proofs.Common.{◌≡◌, ℕ, ◌+◌, ◌∷◌, [], refl, ap, ◌∙◌}
-use Rattle.vfm_turn.specs.Seen.{Seen, hold, left, noted}
+use Rattle.std.proofs.Common.{◌≡◌, ℕ, ◌+◌, refl, ap, ◌∙◌}
+use Rattle.vfm_turn.specs.Seen.{Seen, left, noted}
 use Rattle.vfm_turn.specs.Words.{holds_of, seen_of}
 use Rattle.vfm_cells.specs.Cells.{Cell, dev_number}
 use Rattle.vfm_plant.specs.declared.stepped.Wish.TheVariants as wish
-use Rattle.vfm_plant.specs.Hands.{looked}
 use Rattle.vfm_plant.specs.Outcome.{attempted}
 use Rattle.vfm_plant.proofs.Turns.{one_held, looked_one, dev_looked}
 use Rattle.vfm_plant.proofs.plant.Plant.see_nothing.Goals as goal

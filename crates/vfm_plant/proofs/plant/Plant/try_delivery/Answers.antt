@@ -1,6 +1,6 @@
 -- Its own cell is held.
-use Rattle.std.proofs.Common.{◌≡◌, ℕ, ◌+◌, ◌∷◌, [], refl, ap, sym, ◌∙◌}
-use Rattle.vfm_turn.specs.Seen.{Seen, hold, left, noted, met}
+use Rattle.std.proofs.Common.{◌≡◌, ℕ, refl, ap, sym, ◌∙◌}
+use Rattle.vfm_turn.specs.Seen.{Seen, left, noted, met}
 use Rattle.vfm_turn.specs.Words.{holds_of, seen_of}
 use Rattle.vfm_cells.specs.Cells.{Cell, dev_number}
 use Rattle.vfm_plant.specs.declared.stepped.Wish.TheVariants as wish
