@@ -138,7 +138,7 @@ rest_held at [] parts = refl
 rest_held at (h ∷ hands) parts =
     ap₂ (λ (z : Cell) (hs : List (Hold Cell)). hold h.cell z z ∷ hs) parts.0 (rest_held at hands parts.1)
 
-rest_has : (c : ℕ) (hands : List Hand) → is_held c (map rest_of hands) ≡ has c (cells_held hands)
+pub rest_has : (c : ℕ) (hands : List Hand) → is_held c (map rest_of hands) ≡ has c (cells_held hands)
 rest_has c [] = refl
 rest_has c (h ∷ hands) = ap (λ (b : Bool). h.cell == c || b) (rest_has c hands)
 

@@ -1,2 +1,3 @@
 pub mod Holds
 pub mod Turns
+pub mod GroupHands

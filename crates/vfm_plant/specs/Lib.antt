@@ -1,3 +1,4 @@
 pub mod Hands
+pub mod Group
 pub mod Outcome
 pub mod Started

@@ -3,6 +3,7 @@
 #![tactic(auto)]
 
 mod device;
+mod group;
 mod hand;
 mod plant;
 mod stepped;
