@@ -1,3 +1,4 @@
 pub mod Holds
 pub mod Turns
 pub mod GroupHands
+pub mod Coordinators

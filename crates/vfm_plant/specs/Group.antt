@@ -1,7 +1,8 @@
 -- The cells that a seat holds for the coordinator: its own, each device's, and where a page is copied, that page's.
-use Rattle.std.specs.Prelude.{◌≡◌, ℕ, ◌+◌, ◌<◌, true, List, [], ◌∷◌, map}
+use Rattle.std.specs.Prelude.{◌≡◌, ℕ, ◌+◌, ◌<◌, Bool, true, false, List, [], ◌∷◌, map}
 use Rattle.vfm_types.specs.declared.desc.Desc.{Desc}
 use Rattle.vfm_types.specs.declared.entry.Entry.{Entry}
+use Rattle.vfm_types.specs.declared.entry.Entry.TheVariants.{Issue, Deliver, Complete, Abort}
 use Rattle.vfm_parts.specs.Parts.{Dev, Lead, World, parts_in}
 use Rattle.vfm_turn.specs.Order.{has}
 use Rattle.vfm_turn.specs.Seen.{Hold}
@@ -26,6 +27,14 @@ group_hands lead devs = hand_of 0 (lead_cell lead) ∷ dev_hands 1 devs
 -- what the board has of them before a step
 abbrev pub group_holds : Lead → List Dev → List (Hold Cell)
 group_holds lead devs = map rest_of (group_hands lead devs)
+
+-- a seat makes the entry where the order wants it: it is the coordinator's, and isn't Abort
+abbrev pub is_made_by_seats : Entry → Bool
+is_made_by_seats (Issue d n) = false
+is_made_by_seats (Deliver d n) = false
+is_made_by_seats (Complete d n) = false
+is_made_by_seats Abort = false
+is_made_by_seats entry = true
 
 -- A step of the coordinator from one world to another, by the cells that are held: what lay in them is that of the first
 -- world, and what the hands have is that of the second.

@@ -1,12 +1,12 @@
 -- What came of a wish: what the answer says of the seat's ticket, before the call and after it.
-use Rattle.std.specs.Prelude.{◌≡◌, ◌≢◌, ℕ, ◌+◌, ◌*◌, ◌<◌, ◌≤◌, ◌⊎◌, List, [], ◌∷◌, map, take, drop, Option, Some, None, IsTrue}
+use Rattle.std.specs.Prelude.{◌≡◌, ◌≢◌, ℕ, ◌+◌, ◌*◌, ◌<◌, ◌≤◌, ◌⊎◌, true, List, [], ◌∷◌, map, take, drop, Option, Some, None, IsTrue}
 use Rattle.vfm_types.specs.declared.desc.Desc.{Desc}
 use Rattle.vfm_types.specs.declared.entry.Entry.{Entry}
 use Rattle.vfm_types.specs.declared.entry.Entry.TheVariants.{Deliver, Copy, Block, Abort}
 use Rattle.vfm_types.specs.declared.job.Region.{Region}
 use Rattle.vfm_types.specs.Desc.{device_count}
 use Rattle.vfm_plain.specs.Legal.{is_entry_of}
-use Rattle.vfm_parts.specs.Parts.{World, dev_at, page_at, parts_in}
+use Rattle.vfm_parts.specs.Parts.{Dev, Lead, World, dev_at, page_at, parts_in}
 use Rattle.vfm_parts.specs.Steps.{fault_on}
 use Rattle.vfm_parts_laws.specs.LooksIn.{look_in}
 use Rattle.vfm_quiet.specs.declared.move_look.MoveLook.{MoveLook}
@@ -32,6 +32,7 @@ use Rattle.vfm_turn.specs.declared.kept.Kept.{Ghosts}
 use Rattle.vfm_turn.specs.declared.ticket.Ticket.{Ticket}
 use Rattle.vfm_turn.specs.Words.{number_of, seats_of, seen_of}
 use Rattle.vfm_plant.specs.declared.plant.Plant.{Plant}
+use Rattle.vfm_plant.specs.Group.{is_made_by_seats}
 use Rattle.vfm_plant.specs.Started.{base_of}
 use Rattle.vfm_plant.specs.Hands.{turned, looked}
 
@@ -62,7 +63,7 @@ bytes_read w entry = []
 abbrev pub IsWished : Desc → Wish → List (Touch Cell) → Entry → Type 0
 IsWished D (Device d pick) touches entry = (w : World) → IsFoundIn D w touches → step_in D w d pick ≡ Some entry
 IsWished D (Coordinator abort_after) touches entry =
-    (w : World) × (look : MoveLook) × IsFoundIn D w touches × Shows D (parts_in w) look × (next_want D look abort_after ≡ Do entry) × (entry ≢ Abort)
+    (w : World) × (look : MoveLook) × IsFoundIn D w touches × Shows D (parts_in w) look × (next_want D look abort_after ≡ Do entry) × (is_made_by_seats entry ≡ true)
 
 -- An entry was drawn, in this call: the seat's newest record is its, and it is a step on the cells that it touches. Its place
 -- is its stamp, behind the journal of the start. The bytes are those of each world that has in its cells what it found there.
@@ -75,10 +76,10 @@ pub record HasDrawn (a : Attempt) (place : ℕ) (entry : Entry) : Type 0 where
   pub wished : IsWished a.desc a.wish touches entry
   pub read : (w : World) → IsFoundIn a.desc w touches → a.bytes ≡ bytes_read w entry
 
--- what the order wants isn't made: it is Abort, or it breaks a rule
+-- what the order wants isn't made: it isn't the coordinator's or is Abort, or it breaks a rule
 abbrev pub WantsNothing : Desc → World → MoveLook → ℕ → Type 0
 WantsNothing D w look abort_after =
-    (entry : Entry) → next_want D look abort_after ≡ Do entry → entry ≢ Abort → IsTrue (is_entry_of D entry) → fault_on D w entry ≢ None
+    (entry : Entry) → next_want D look abort_after ≡ Do entry → is_made_by_seats entry ≡ true → IsTrue (is_entry_of D entry) → fault_on D w entry ≢ None
 
 -- The look is that of each world which has in some cells what was noted of them, and there is nothing in it that is wished for.
 abbrev pub IsSeen : Desc → Wish → List (Stand Cell) → Look → Type 0
@@ -136,6 +137,16 @@ abbrev pub IsOutcome : Attempt → Stepped → Type 0
 IsOutcome a (stepped.Did place entry) = HasDrawn a place entry
 IsOutcome a (stepped.Nothing at seen) = HasLooked a at seen
 IsOutcome a (stepped.Busy cell holder) = HasMet a cell holder
+
+-- the bytes that are given out: these where an entry was made, and else none
+abbrev pub bytes_of_answer : Stepped → List ℕ → List ℕ
+bytes_of_answer (stepped.Did place entry) bytes = bytes
+bytes_of_answer (stepped.Nothing at seen) bytes = []
+bytes_of_answer (stepped.Busy cell holder) bytes = []
+
+-- those that an entry reads, which copies no page, where the devices are given
+abbrev pub bytes_in_group : Lead → List Dev → Entry → List ℕ
+bytes_in_group lead devs entry = bytes_read (record { lead = lead; devs = devs; pages = [] }) entry
 
 -- the call of a seat for a wish on a plant, by its ticket before and after it; no bytes are given out
 abbrev pub attempted : {g : Ghosts Cell Cell} → Plant → Wish → Ticket Cell Cell g → Ticket Cell Cell g → Attempt
