@@ -1,9 +1,20 @@
 -- What came of the coordinator's wish.
-use Rattle.std.proofs.Common.{◌≡◌, ◌≢◌, ℕ, suc, zero, ◌+◌, ◌<◌, ◌≤◌, true, List, [], ◌∷◌, ◌++◌, map, length, Some, None, IsTrue, refl, ap, ap₂, sym, subst, ◌∙◌, arith}
+use Rattle.std.proofs.Common.{◌≡◌, ◌≢◌, ℕ, suc, zero, ◌+◌, ◌*◌, ◌<◌, ◌≤◌, ◌==◌, ◌||◌, Bool, true, false, nat_lt, take, drop, ltb-true, ⊎_elim, List, [], ◌∷◌, ◌++◌, map, length, Some, None, IsTrue, refl, ap, ap₂, sym, subst, ◌∙◌, arith}
 use Rattle.vfm_types.specs.declared.desc.Desc.{Desc}
 use Rattle.vfm_types.specs.declared.entry.Entry.{Entry}
-use Rattle.vfm_types.specs.Desc.{device_count}
-use Rattle.vfm_parts.specs.Parts.{Dev, Lead, World, parts_in, dev_at, no_dev, listed}
+use Rattle.std.proofs.lemmas.Bool.{eq-eqb, and_parts, cases_lt, false≢true}
+use Rattle.vfm_types.specs.declared.entry.Entry.TheVariants.{Issue, Deliver, Complete, Hold, Arc, Fail, Report, Pass, Copy, Block, Dry, Begin, Joint, Abort, Resume}
+use Rattle.vfm_types.specs.declared.entry.Rule.{Rule}
+use Rattle.vfm_types.specs.Desc.{block_count, device_count, shape_at}
+use Rattle.vfm_plain.specs.Legal.{is_entry_of}
+use Rattle.vfm_parts.specs.Steps.{fault_on}
+use Rattle.vfm_laws.proofs.Walks.{some_none}
+use Rattle.vfm_quiet.specs.declared.want.Want.TheVariants.{Do}
+use Rattle.vfm_quiet.specs.Order.{next_want}
+use Rattle.vfm_turn.specs.Order.{has}
+use Rattle.vfm_cells.specs.Touched.{touched, up_from}
+use Rattle.vfm_cells.proofs.Numbers.{two_dev, up_has}
+use Rattle.vfm_parts.specs.Parts.{Dev, Lead, Parts, World, parts_in, dev_at, no_dev, listed}
 use Rattle.vfm_parts.proofs.Listed.{listed_items, listed_same}
 use Rattle.vfm_quiet.specs.declared.move_look.MoveLook.{MoveLook}
 use Rattle.vfm_turn.specs.declared.seen.Stand.{Stand}
@@ -11,17 +22,21 @@ use Rattle.vfm_turn.specs.Log.{Each}
 use Rattle.vfm_turn.specs.Seen.{Hold as Holding, settled_of}
 use Rattle.vfm_cells.specs.Cells.{Cell, device_cell, lead_cell, dev_or_none, lead_or_first, cell_at, cell_count, dev_number, IsWhole}
 use Rattle.vfm_cells.proofs.Whole.{cell_dev}
-use Rattle.vfm_lead.specs.LeadSteps.{dev_of_list, parts_of}
+use Rattle.vfm_lead.specs.LeadSteps.{dev_of_list, is_of_lead, parts_of}
 use Rattle.vfm_lead.specs.Shown.{Shows}
 use Rattle.vfm_core.specs.CoreState.{world_with}
-use Rattle.vfm_cell_steps.specs.Made.{group}
-use Rattle.vfm_plant_laws.specs.OneRun.{AreIn}
+use Rattle.vfm_cell_steps.specs.Made.{group, IsStepTo}
+use Rattle.vfm_plant_laws.specs.OneRun.{AreIn, IsFoundIn}
 use Rattle.vfm_plant.specs.declared.hand.Hand.{Hand}
+use Rattle.vfm_plant.specs.declared.stepped.Wish.{Wish}
 use Rattle.vfm_plant.specs.declared.stepped.Wish.TheVariants as wish
 use Rattle.vfm_plant.specs.declared.stepped.Look.TheVariants as look
-use Rattle.vfm_plant.specs.Group.{dev_hands, group_hands, group_holds}
-use Rattle.vfm_plant.specs.Hands.{rest_of}
-use Rattle.vfm_plant.specs.Outcome.{IsSeen, WantsNothing}
+use Rattle.vfm_plant.specs.Group.{dev_hands, group_hands, group_holds, is_made_by_seats, IsGroupTurn}
+use Rattle.vfm_plant.specs.Hands.{AreAmong, AreParts, cells_held, held, rest_of, touches_by, turned}
+use Rattle.vfm_plant.proofs.Holds.{rest_held}
+use Rattle.vfm_plant.proofs.GroupHands.{group_cells, group_past}
+use Rattle.vfm_plant.proofs.Turns.{befores_by, cells_by, found_at, made_step}
+use Rattle.vfm_plant.specs.Outcome.{Attempt, HasDrawn, IsSeen, IsWished, WantsNothing, bytes_in_group, bytes_read}
 
 -- what is held stands in the world
 abbrev StandIn : Desc → World → List (Holding Cell) → Type 0
@@ -72,3 +87,136 @@ seen_rests D lead devs more seen abort_after count shows none = λ w whole there
       subst (λ (v : World). Shows D (parts_in v) seen) (sym is) (shows_in D lead devs w.pages seen shows),
       subst (λ (v : World). WantsNothing D v seen abort_after) (sym is) none,
     )
+
+-- ---- turns on the group
+
+parts_devs : (D : Desc) (w : World) (d : ℕ) (devs : List Dev) → d + length devs ≤ device_count D → ((i : ℕ) → i < length devs → dev_at w (d + i) ≡ dev_of_list devs i)
+    → AreParts (cell_at D w) (dev_hands (d + 1) devs)
+parts_devs D w d [] few same = tt
+parts_devs D w d (dev ∷ devs) few same = (
+  cell_dev D (parts_in w) d (omega arith) ∙ ap device_cell (ap (dev_at w) (omega arith) ∙ same 0 (omega arith)),
+  parts_devs D w (d + 1) devs (omega arith) (λ i h. ap (dev_at w) (omega arith) ∙ same (suc i) (omega arith)),
+)
+
+pub parts_group : (D : Desc) (lead : Lead) (devs : List Dev) (pages : List (List ℕ)) → length devs ≡ device_count D
+    → AreParts (cell_at D (world_with lead devs pages)) (group_hands lead devs)
+parts_group D lead devs pages count =
+    (refl, parts_devs D (world_with lead devs pages) 0 devs (omega arith) (λ i h. ap (dev_at (world_with lead devs pages)) (omega arith)))
+
+among_up : (cells others : List ℕ) → ((c : ℕ) → has c cells ≡ true → has c others ≡ true) → AreAmong cells others
+among_up [] others all = tt
+among_up (c ∷ cells) others all = (
+  all c (ap (λ (b : Bool). b || has c cells) (eq-eqb c c refl)),
+  among_up cells others (λ k among. all k (ap (λ (b : Bool). c == k || b) among ∙ or-true (c == k))),
+)
+  where
+    or-true : (b : Bool) → (b || true) ≡ true
+    or-true true = refl
+    or-true false = refl
+
+among_two : (D : Desc) (d : ℕ) → d < device_count D → AreAmong (0 ∷ dev_number d ∷ []) (up_from 0 (device_count D + 1))
+among_two D d inside =
+    (up_has 0 0 (device_count D + 1) (omega arith) (omega arith), (up_has (d + 1) 0 (device_count D + 1) (omega arith) (omega arith), tt))
+
+lead_among : (D : Desc) (parts : Parts) (entry : Entry) → is_of_lead entry ≡ true → is_entry_of D entry ≡ true → AreAmong (touched D parts entry) (up_from 0 (device_count D + 1))
+lead_among D parts (Issue d n) kind named = absurd (false≢true kind)
+lead_among D parts (Deliver d n) kind named = absurd (false≢true kind)
+lead_among D parts (Complete d n) kind named = absurd (false≢true kind)
+lead_among D parts (Copy p) kind named = absurd (false≢true kind)
+lead_among D parts (Report d) kind named = among_two D d (ltb-true d (device_count D) named)
+lead_among D parts (Block d b) kind named = among_two D d (ltb-true d (device_count D) (and_parts (nat_lt d (device_count D)) (nat_lt b (block_count (shape_at D d))) named).0)
+lead_among D parts (Dry d) kind named = among_two D d (ltb-true d (device_count D) named)
+lead_among D parts (Hold d to) kind named = among_up (up_from 0 (device_count D + 1)) (up_from 0 (device_count D + 1)) (λ c among. among)
+lead_among D parts (Arc d to) kind named = among_up (up_from 0 (device_count D + 1)) (up_from 0 (device_count D + 1)) (λ c among. among)
+lead_among D parts (Fail d to) kind named = among_up (up_from 0 (device_count D + 1)) (up_from 0 (device_count D + 1)) (λ c among. among)
+lead_among D parts (Pass k) kind named = among_up (up_from 0 (device_count D + 1)) (up_from 0 (device_count D + 1)) (λ c among. among)
+lead_among D parts Begin kind named = among_up (up_from 0 (device_count D + 1)) (up_from 0 (device_count D + 1)) (λ c among. among)
+lead_among D parts Joint kind named = among_up (up_from 0 (device_count D + 1)) (up_from 0 (device_count D + 1)) (λ c among. among)
+lead_among D parts Abort kind named = among_up (up_from 0 (device_count D + 1)) (up_from 0 (device_count D + 1)) (λ c among. among)
+lead_among D parts Resume kind named = among_up (up_from 0 (device_count D + 1)) (up_from 0 (device_count D + 1)) (λ c among. among)
+
+cells_of_group : (D : Desc) (lead : Lead) (devs : List Dev) → length devs ≡ device_count D → cells_held (group_hands lead devs) ≡ up_from 0 (device_count D + 1)
+cells_of_group D lead devs count = let same : suc (length devs) ≡ device_count D + 1 = omega arith in group_cells lead devs ∙ ap (up_from 0) same
+
+group_below : (D : Desc) (lead : Lead) (devs : List Dev) (c : ℕ) → length devs ≡ device_count D → has c (cells_held (group_hands lead devs)) ≡ true → c < cell_count D
+group_below D lead devs c count among =
+    ⊎_elim (λ (h : c < device_count D + 1). let low : c < cell_count D = omega arith in low)
+    (λ (h : device_count D + 1 ≤ c). absurd (false≢true (sym (group_past lead devs c (omega arith)) ∙ among))) (cases_lt c (device_count D + 1))
+
+pub group_turn : (D : Desc) (entry : Entry) (holds : List (Holding Cell)) (hands : List Hand) (lead lead' : Lead) (devs devs' : List Dev) (bytes : List ℕ)
+    → length devs ≡ device_count D → length devs' ≡ device_count D → is_of_lead entry ≡ true → is_entry_of D entry ≡ true
+    → holds ≡ group_holds lead devs → hands ≡ group_hands lead' devs' → IsStepTo D entry (group D lead devs bytes) (group D lead' devs' bytes)
+    → IsGroupTurn D entry holds hands (group D lead devs bytes) (group D lead' devs' bytes)
+group_turn D entry holds hands lead lead' devs devs' bytes count count' kind named stands are step =
+    subst (λ (hs : List Hand). IsGroupTurn D entry holds hs (group D lead devs bytes) (group D lead' devs' bytes)) (sym are)
+    record {
+      holds_are =
+          stands
+          ∙ (sym (rest_held (cell_at D (group D lead devs bytes)) (group_hands lead devs) (parts_group D lead devs (listed D.pages (λ p. bytes)) count))
+          ∙ ap (held (cell_at D (group D lead devs bytes)) (cell_at D (group D lead devs bytes))) (cells_of_group D lead devs count ∙ sym (cells_of_group D lead' devs' count')));
+      parts = parts_group D lead' devs' (listed D.pages (λ p. bytes)) count';
+      below = λ c among. group_below D lead' devs' c count' among;
+      among = subst (λ (cells : List ℕ). AreAmong (touched D (parts_in (group D lead devs bytes)) entry) cells) (sym (cells_of_group D lead' devs' count'))
+          (lead_among D (parts_in (group D lead devs bytes)) entry kind named);
+      step = step;
+    }
+
+-- ---- what was drawn
+
+found_by : (D : Desc) (w : World) (f g : ℕ → Cell) (cells : List ℕ) → f ≡ cell_at D w → IsFoundIn D w (touches_by f g cells)
+found_by D w f g cells is = befores_by f g cells ∙ (ap (λ (h : ℕ → Cell). map h cells) is ∙ ap (map (cell_at D w)) (sym (cells_by f g cells)))
+
+pub lead_drawn : (a : Attempt) (abort_after place stamp : ℕ) (entry : Entry) (w v : World) (seen : MoveLook) → a.wish ≡ wish.Coordinator abort_after
+    → IsStepTo a.desc entry w v
+    → a.new ≡ turned a.by stamp entry (touches_by (cell_at a.desc w) (cell_at a.desc v) (touched a.desc (parts_in w) entry)) a.old
+    → place ≡ a.base + stamp → Shows a.desc (parts_in w) seen → next_want a.desc seen abort_after ≡ Do entry → is_made_by_seats entry ≡ true
+    → ((u : World) → IsFoundIn a.desc u (touches_by (cell_at a.desc w) (cell_at a.desc v) (touched a.desc (parts_in w) entry)) → a.bytes ≡ bytes_read u entry)
+    → HasDrawn a place entry
+lead_drawn a abort_after place stamp entry w v seen asks step new placed shows wants made reads =
+    let D = a.desc in
+    let cells = touched D (parts_in w) entry in
+    record {
+      stamp = stamp;
+      touches = touches_by (cell_at D w) (cell_at D v) cells;
+      seen = new;
+      placed = placed;
+      step = made_step D entry cells (cell_at D w) (cell_at D v) step.made;
+      wished = subst (λ (x : Wish). IsWished D x (touches_by (cell_at D w) (cell_at D v) cells) entry) (sym asks)
+          (w, seen, found_by D w (cell_at D w) (cell_at D v) cells refl, shows, wants, made);
+      read = reads;
+    }
+
+-- what an entry that copies no page reads
+pub group_reads : (D : Desc) (lead : Lead) (devs : List Dev) (pages : List (List ℕ)) (entry : Entry) (v : World) → is_of_lead entry ≡ true → is_entry_of D entry ≡ true
+    → (u : World) → IsFoundIn D u (touches_by (cell_at D (world_with lead devs pages)) (cell_at D v) (touched D (parts_in (world_with lead devs pages)) entry))
+    → bytes_in_group lead devs entry ≡ bytes_read u entry
+group_reads D lead devs pages (Block d b) v kind named u found =
+    let inside : d < device_count D = ltb-true d (device_count D) (and_parts (nat_lt d (device_count D)) (nat_lt b (block_count (shape_at D d))) named).0 in
+    let w = world_with lead devs pages in
+    let there = found_at D u (0 ∷ dev_number d ∷ []) (cell_at D w) (cell_at D v) found (dev_number d) (two_dev d d ∙ eq-eqb d d refl) in
+    let same : dev_at w d ≡ dev_at u d = ap dev_or_none (sym (cell_dev D (parts_in w) d inside) ∙ (there ∙ cell_dev D (parts_in u) d inside)) in
+    ap (λ (dev : Dev). take 64 (drop (64 * b) dev.plain.bar)) same
+group_reads D lead devs pages (Copy p) v kind named u found = absurd (false≢true kind)
+group_reads D lead devs pages (Issue d n) v kind named u found = refl
+group_reads D lead devs pages (Deliver d n) v kind named u found = refl
+group_reads D lead devs pages (Complete d n) v kind named u found = refl
+group_reads D lead devs pages (Hold d to) v kind named u found = refl
+group_reads D lead devs pages (Arc d to) v kind named u found = refl
+group_reads D lead devs pages (Fail d to) v kind named u found = refl
+group_reads D lead devs pages (Report d) v kind named u found = refl
+group_reads D lead devs pages (Pass k) v kind named u found = refl
+group_reads D lead devs pages (Dry d) v kind named u found = refl
+group_reads D lead devs pages Begin v kind named u found = refl
+group_reads D lead devs pages Joint v kind named u found = refl
+group_reads D lead devs pages Abort v kind named u found = refl
+group_reads D lead devs pages Resume v kind named u found = refl
+
+-- the wanted entry breaks a rule
+do_same : (e e' : Entry) → Do e ≡ Do e' → e ≡ e'
+do_same e e' is = cc
+
+pub wants_barred : (D : Desc) (w : World) (seen : MoveLook) (abort_after : ℕ) (entry : Entry) (rule : Rule) → next_want D seen abort_after ≡ Do entry
+    → fault_on D w entry ≡ Some rule → WantsNothing D w seen abort_after
+wants_barred D w seen abort_after entry rule wants broken = λ other wanted made named fine.
+    let same : other ≡ entry = do_same other entry (sym wanted ∙ wants) in
+    some_none rule (sym broken ∙ (ap (fault_on D w) (sym same) ∙ fine))

@@ -83,11 +83,11 @@ has_swapped a b c among = swapped (a == c) (b == c) among
 
 -- ---- the touches of a step
 
-cells_by : (f g : ℕ → Cell) (cells : List ℕ) → map touch_cell (touches_by f g cells) ≡ cells
+pub cells_by : (f g : ℕ → Cell) (cells : List ℕ) → map touch_cell (touches_by f g cells) ≡ cells
 cells_by f g [] = refl
 cells_by f g (c ∷ cells) = ap (λ (cs : List ℕ). c ∷ cs) (cells_by f g cells)
 
-befores_by : (f g : ℕ → Cell) (cells : List ℕ) → map touch_before (touches_by f g cells) ≡ map f cells
+pub befores_by : (f g : ℕ → Cell) (cells : List ℕ) → map touch_before (touches_by f g cells) ≡ map f cells
 befores_by f g [] = refl
 befores_by f g (c ∷ cells) = ap (λ (cs : List Cell). f c ∷ cs) (befores_by f g cells)
 

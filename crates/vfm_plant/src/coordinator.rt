@@ -99,6 +99,7 @@ impl Plant {
         ensures ticket { IsTicketOf self.now.board t.new × (number_of t.new ≡ number_of t.old) }
         ensures hands { (hands.new.items ≡ []) × (vec_capacity hands.new ≡ vec_capacity hands.old) }
         ensures outcome { IsOutcome (attempted self.now (wish.Coordinator _abort_after) t.old t.new) result }
+        ensures nothing { (bytes : List ℕ) → bytes_of_answer result bytes ≡ [] }
     {
         let answer = self.board.now(t);
         leave_all(&self.board, t, hands);
@@ -127,6 +128,7 @@ impl Plant {
         ensures hands { (hands.new.items ≡ []) × (vec_capacity hands.new ≡ vec_capacity hands.old) }
         ensures devices { (devices.new.items ≡ []) × (vec_capacity devices.new ≡ vec_capacity devices.old) }
         ensures outcome { IsOutcome (attempted self.now (wish.Coordinator chair.abort_after) t.old t.new) result }
+        ensures nothing { (bytes : List ℕ) → bytes_of_answer result bytes ≡ [] }
     {
         let Chair {
             part,
