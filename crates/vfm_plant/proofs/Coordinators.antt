@@ -1,5 +1,5 @@
 -- What came of the coordinator's wish.
-use Rattle.std.proofs.Common.{◌≡◌, ◌≢◌, ℕ, suc, zero, ◌+◌, ◌*◌, ◌<◌, ◌≤◌, ◌==◌, ◌||◌, Bool, true, false, nat_lt, take, drop, ltb-true, ⊎_elim, List, [], ◌∷◌, ◌++◌, map, length, Some, None, IsTrue, refl, ap, ap₂, sym, subst, ◌∙◌, arith}
+use Rattle.std.proofs.Common.{◌≡◌, ◌≢◌, ℕ, suc, zero, ◌+◌, ◌*◌, ◌<◌, ◌≤◌, ◌==◌, ◌||◌, Bool, true, false, nat_lt, take, drop, ltb-true, eqb-true, ⊎_elim, List, [], ◌∷◌, ◌++◌, map, length, Some, None, IsTrue, refl, ap, ap₂, sym, subst, ◌∙◌, arith}
 use Rattle.vfm_types.specs.declared.desc.Desc.{Desc}
 use Rattle.vfm_types.specs.declared.entry.Entry.{Entry}
 use Rattle.std.proofs.lemmas.Bool.{eq-eqb, and_parts, cases_lt, false≢true}
@@ -11,18 +11,24 @@ use Rattle.vfm_parts.specs.Steps.{fault_on}
 use Rattle.vfm_laws.proofs.Walks.{some_none}
 use Rattle.vfm_quiet.specs.declared.want.Want.TheVariants.{Do}
 use Rattle.vfm_quiet.specs.Order.{next_want}
-use Rattle.vfm_turn.specs.Order.{has}
+use Rattle.std.proofs.Math.Bool.{or-false}
+use Rattle.std.proofs.lemmas.List.Elements.{All-push}
+use Rattle.vfm_laws.proofs.Rising.{by_bool}
+use Rattle.vfm_turn.proofs.Lists.{each_snoc}
+use Rattle.vfm_turn.proofs.Tickets.{once_end}
+use Rattle.vfm_cells.specs.CellFits.{CellFits}
+use Rattle.vfm_turn.specs.Order.{are_once, has}
 use Rattle.vfm_cells.specs.Touched.{touched, up_from}
-use Rattle.vfm_cells.proofs.Numbers.{two_dev, up_has}
+use Rattle.vfm_cells.proofs.Numbers.{copy_page, two_dev, up_has}
 use Rattle.vfm_parts.specs.Parts.{Dev, Lead, Parts, World, parts_in, dev_at, no_dev, listed}
-use Rattle.vfm_parts.proofs.Listed.{listed_items, listed_same}
+use Rattle.vfm_parts.proofs.Listed.{listed_at, listed_items, listed_same}
 use Rattle.vfm_quiet.specs.declared.move_look.MoveLook.{MoveLook}
 use Rattle.vfm_turn.specs.declared.seen.Stand.{Stand}
 use Rattle.vfm_turn.specs.Log.{Each}
-use Rattle.vfm_turn.specs.Seen.{Hold as Holding, settled_of}
-use Rattle.vfm_cells.specs.Cells.{Cell, device_cell, lead_cell, dev_or_none, lead_or_first, cell_at, cell_count, dev_number, IsWhole}
-use Rattle.vfm_cells.proofs.Whole.{cell_dev}
-use Rattle.vfm_lead.specs.LeadSteps.{dev_of_list, is_of_lead, parts_of}
+use Rattle.vfm_turn.specs.Seen.{Hold as Holding, hold, settled_of}
+use Rattle.vfm_cells.specs.Cells.{Cell, page_cell, page_number, bytes_or_none, device_cell, lead_cell, dev_or_none, lead_or_first, cell_at, cell_count, dev_number, IsWhole}
+use Rattle.vfm_cells.proofs.Whole.{cell_dev, cell_page}
+use Rattle.vfm_lead.specs.LeadSteps.{AreSound, dev_of_list, lead_fault, is_of_lead, parts_of}
 use Rattle.vfm_lead.specs.Shown.{Shows}
 use Rattle.vfm_core.specs.CoreState.{world_with}
 use Rattle.vfm_cell_steps.specs.Made.{group, IsStepTo}
@@ -31,10 +37,10 @@ use Rattle.vfm_plant.specs.declared.hand.Hand.{Hand}
 use Rattle.vfm_plant.specs.declared.stepped.Wish.{Wish}
 use Rattle.vfm_plant.specs.declared.stepped.Wish.TheVariants as wish
 use Rattle.vfm_plant.specs.declared.stepped.Look.TheVariants as look
-use Rattle.vfm_plant.specs.Group.{dev_hands, group_hands, group_holds, is_made_by_seats, IsGroupTurn}
-use Rattle.vfm_plant.specs.Hands.{AreAmong, AreParts, cells_held, held, rest_of, touches_by, turned}
-use Rattle.vfm_plant.proofs.Holds.{rest_held}
-use Rattle.vfm_plant.proofs.GroupHands.{group_cells, group_past}
+use Rattle.vfm_plant.specs.Group.{hand_of, dev_hands, group_hands, group_holds, is_made_by_seats, IsGroupTurn}
+use Rattle.vfm_plant.specs.Hands.{AreAmong, AreFitting, AreParts, cells_held, hand_cell, held, rest_of, touches_by, turned}
+use Rattle.vfm_plant.proofs.Holds.{has_end, map_end, rest_held}
+use Rattle.vfm_plant.proofs.GroupHands.{group_cells, group_fits, group_once, group_past}
 use Rattle.vfm_plant.proofs.Turns.{befores_by, cells_by, found_at, made_step}
 use Rattle.vfm_plant.specs.Outcome.{Attempt, HasDrawn, IsSeen, IsWished, WantsNothing, bytes_in_group, bytes_read}
 
@@ -220,3 +226,93 @@ pub wants_barred : (D : Desc) (w : World) (seen : MoveLook) (abort_after : ℕ) 
 wants_barred D w seen abort_after entry rule wants broken = λ other wanted made named fine.
     let same : other ≡ entry = do_same other entry (sym wanted ∙ wants) in
     some_none rule (sym broken ∙ (ap (fault_on D w) (sym same) ∙ fine))
+
+-- ---- the copying of a page
+
+both_hands : (D : Desc) (lead : Lead) (devs : List Dev) (bytes : List ℕ) (p cell : ℕ) → length devs ≡ device_count D → p < D.pages → cell ≡ page_number D p
+    → AreParts (cell_at D (group D lead devs bytes)) (group_hands lead devs ++ hand_of cell (page_cell bytes) ∷ [])
+both_hands D lead devs bytes p cell count inside is =
+    each_snoc (λ h. cell_at D (group D lead devs bytes) h.cell ≡ h.part) (group_hands lead devs) (hand_of cell (page_cell bytes))
+    (parts_group D lead devs (listed D.pages (λ q. bytes)) count)
+    (ap (cell_at D (group D lead devs bytes)) is
+    ∙ (cell_page D (parts_in (group D lead devs bytes)) p ∙ ap page_cell (listed_at D.pages (λ q. bytes) p [] inside)))
+
+cells_with : (D : Desc) (lead : Lead) (devs : List Dev) (cell : ℕ) (part : Cell) → length devs ≡ device_count D
+    → cells_held (group_hands lead devs ++ hand_of cell part ∷ []) ≡ up_from 0 (device_count D + 1) ++ cell ∷ []
+cells_with D lead devs cell part count =
+    map_end hand_cell (group_hands lead devs) (hand_of cell part) ∙ ap (λ (cs : List ℕ). cs ++ cell ∷ []) (cells_of_group D lead devs count)
+
+has_either : (P : ℕ → Type 0) (c y : ℕ) (xs : List ℕ) → has c (xs ++ y ∷ []) ≡ true → (has c xs ≡ true → P c) → P y → P c
+has_either P c y [] among first last = subst P (eqb-true y c (sym (or-false (y == c)) ∙ among)) last
+has_either P c y (x ∷ xs) among first last =
+    by_bool (x == c) (λ b. (x == c) ≡ b → (b || has c (xs ++ y ∷ [])) ≡ true → P c)
+    (λ here e m. first (ap (λ (b : Bool). b || has c xs) e))
+    (λ away e m. has_either P c y xs m (λ h. first (ap (λ (b : Bool). b || has c xs) e ∙ h)) last) refl among
+
+has_more : (c : ℕ) (xs ys : List ℕ) → has c xs ≡ true → has c (xs ++ ys) ≡ true
+has_more c [] ys among = absurd (false≢true among)
+has_more c (x ∷ xs) ys among =
+    by_bool (x == c) (λ b. (b || has c xs) ≡ true → (b || has c (xs ++ ys)) ≡ true) (λ here m. refl) (λ away m. has_more c xs ys m) among
+
+page_past : (D : Desc) (p c : ℕ) → p < D.pages → c ≡ page_number D p → c < cell_count D
+page_past D p c inside is = omega arith
+
+pub copy_turn : (D : Desc) (holds : List (Holding Cell)) (hands : List Hand) (lead lead' : Lead) (devs : List Dev) (bytes : List ℕ) (p cell : ℕ)
+    → length devs ≡ device_count D → p < D.pages → cell ≡ page_number D p
+    → holds ≡ group_holds lead devs ++ hold cell (page_cell bytes) (page_cell bytes) ∷ [] → hands ≡ group_hands lead' devs ++ hand_of cell (page_cell bytes) ∷ []
+    → IsStepTo D (Copy p) (group D lead devs bytes) (group D lead' devs bytes)
+    → IsGroupTurn D (Copy p) holds hands (group D lead devs bytes) (group D lead' devs bytes)
+copy_turn D holds hands lead lead' devs bytes p cell count inside is stands are step =
+    let f = cell_at D (group D lead devs bytes) in
+    let all = group_hands lead devs ++ hand_of cell (page_cell bytes) ∷ [] in
+    let all' = group_hands lead' devs ++ hand_of cell (page_cell bytes) ∷ [] in
+    let cells' = cells_with D lead' devs cell (page_cell bytes) count in
+    subst (λ (hs : List Hand). IsGroupTurn D (Copy p) holds hs (group D lead devs bytes) (group D lead' devs bytes)) (sym are)
+    record {
+      holds_are =
+          stands
+          ∙ (sym (map_end rest_of (group_hands lead devs) (hand_of cell (page_cell bytes)))
+          ∙ (sym (rest_held f all (both_hands D lead devs bytes p cell count inside is))
+          ∙ ap (held f f) (cells_with D lead devs cell (page_cell bytes) count ∙ sym cells')));
+      parts = both_hands D lead' devs bytes p cell count inside is;
+      below = λ c among.
+          has_either (λ k. k < cell_count D) c cell (up_from 0 (device_count D + 1)) (ap (has c) (sym cells') ∙ among)
+          (λ h. group_below D lead' devs c count (ap (has c) (cells_of_group D lead' devs count) ∙ h)) (page_past D p cell inside is);
+      among = subst (λ (cells : List ℕ). AreAmong (0 ∷ page_number D p ∷ []) cells) (sym cells')
+          (has_more 0 (up_from 0 (device_count D + 1)) (cell ∷ []) (up_has 0 0 (device_count D + 1) (omega arith) (omega arith)),
+          (subst (λ (k : ℕ). has k (up_from 0 (device_count D + 1) ++ cell ∷ []) ≡ true) is (has_end cell (up_from 0 (device_count D + 1))), tt));
+      step = step;
+    }
+
+pub copy_reads : (D : Desc) (lead : Lead) (devs : List Dev) (bytes : List ℕ) (p : ℕ) (v u : World) → p < D.pages
+    → IsFoundIn D u (touches_by (cell_at D (group D lead devs bytes)) (cell_at D v) (0 ∷ page_number D p ∷ [])) → bytes ≡ bytes_read u (Copy p)
+copy_reads D lead devs bytes p v u inside found =
+    let w = group D lead devs bytes in
+    let there = found_at D u (0 ∷ page_number D p ∷ []) (cell_at D w) (cell_at D v) found (page_number D p) (copy_page D p p ∙ eq-eqb p p refl) in
+    ap bytes_or_none
+    (ap page_cell (sym (listed_at D.pages (λ q. bytes) p [] inside)) ∙ (sym (cell_page D (parts_in w) p) ∙ (there ∙ cell_page D (parts_in u) p)))
+
+-- what is held with the page's cell
+pub copy_holding : (D : Desc) (lead : Lead) (devs : List Dev) (page : Cell) (p cell : ℕ) (hands : List Hand) → AreSound D lead devs → cell ≡ page_number D p
+    → CellFits D cell page → hands ≡ group_hands lead devs ++ hand_of cell page ∷ []
+    → (are_once (cells_held hands) ≡ true) × AreFitting D hands
+copy_holding D lead devs page p cell hands sound is fits are =
+    let count = sound.devs_fit.count in (
+      ap (λ (hs : List Hand). are_once (cells_held hs)) are
+      ∙ (ap are_once (map_end hand_cell (group_hands lead devs) (hand_of cell page))
+      ∙ once_end cell (cells_held (group_hands lead devs)) (group_once lead devs) (group_past lead devs cell (omega arith))),
+      subst (AreFitting D) (sym are)
+      (All-push (λ (h : Hand). CellFits D h.cell h.part) (group_hands lead devs) (hand_of cell page)
+      (group_fits D lead devs sound.lead_fits (omega arith) (λ i h. sound.devs_fit.each i (omega arith))) fits),
+    )
+
+length_devs : (k : ℕ) (devs : List Dev) → length (dev_hands k devs) ≡ length devs
+length_devs k [] = refl
+length_devs k (dev ∷ devs) = ap suc (length_devs (k + 1) devs)
+
+pub length_group : (lead : Lead) (devs : List Dev) → length (group_hands lead devs) ≡ suc (length devs)
+length_group lead devs = ap suc (length_devs 1 devs)
+
+pub copy_judged : (D : Desc) (lead : Lead) (devs : List Dev) (p : ℕ) (rule : Rule) → lead_fault D lead devs (Copy p) ≡ Some rule
+    → fault_on D (group D lead devs []) (Copy p) ≡ Some rule
+copy_judged D lead devs p rule broken = broken

@@ -146,7 +146,7 @@ pub map_end : {X Y : Type 0} (f : X → Y) (xs : List X) (x : X) → map f (xs +
 map_end f [] x = refl
 map_end {X} {Y} f (y ∷ xs) x = ap (λ (ys : List Y). f y ∷ ys) (map_end f xs x)
 
-has_end : (c : ℕ) (xs : List ℕ) → has c (xs ++ c ∷ []) ≡ true
+pub has_end : (c : ℕ) (xs : List ℕ) → has c (xs ++ c ∷ []) ≡ true
 has_end c [] = ap (λ (b : Bool). b || false) (eq-eqb c c refl)
 has_end c (x ∷ xs) = ap (λ (b : Bool). x == c || b) (has_end c xs) ∙ or-true (x == c)
   where
