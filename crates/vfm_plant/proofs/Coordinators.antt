@@ -1,5 +1,5 @@
 -- What came of the coordinator's wish.
-use Rattle.std.proofs.Common.{◌≡◌, ◌≢◌, ℕ, suc, zero, ◌+◌, ◌*◌, ◌<◌, ◌≤◌, ◌==◌, ◌||◌, Bool, true, false, nat_lt, take, drop, ltb-true, eqb-true, ⊎_elim, List, [], ◌∷◌, ◌++◌, map, length, Some, None, IsTrue, refl, ap, ap₂, sym, subst, ◌∙◌, arith}
+use Rattle.std.proofs.Common.{◌≡◌, ◌≢◌, ℕ, suc, zero, ◌+◌, ◌*◌, ◌<◌, ◌≤◌, ◌==◌, ◌||◌, not, append-nil, Bool, true, false, nat_lt, take, drop, ltb-true, eqb-true, ⊎_elim, List, [], ◌∷◌, ◌++◌, map, length, Some, None, IsTrue, refl, ap, ap₂, sym, subst, ◌∙◌, arith}
 use Rattle.vfm_types.specs.declared.desc.Desc.{Desc}
 use Rattle.vfm_types.specs.declared.entry.Entry.{Entry}
 use Rattle.std.proofs.lemmas.Bool.{eq-eqb, and_parts, cases_lt, false≢true}
@@ -9,6 +9,7 @@ use Rattle.vfm_types.specs.Desc.{block_count, device_count, shape_at}
 use Rattle.vfm_plain.specs.Legal.{is_entry_of}
 use Rattle.vfm_parts.specs.Steps.{fault_on}
 use Rattle.vfm_laws.proofs.Walks.{some_none}
+use Rattle.vfm_quiet.specs.declared.want.Want.{Want}
 use Rattle.vfm_quiet.specs.declared.want.Want.TheVariants.{Do}
 use Rattle.vfm_quiet.specs.Order.{next_want}
 use Rattle.std.proofs.Math.Bool.{or-false}
@@ -42,7 +43,7 @@ use Rattle.vfm_plant.specs.Hands.{AreAmong, AreFitting, AreParts, cells_held, ha
 use Rattle.vfm_plant.proofs.Holds.{has_end, map_end, rest_held}
 use Rattle.vfm_plant.proofs.GroupHands.{group_cells, group_fits, group_once, group_past}
 use Rattle.vfm_plant.proofs.Turns.{befores_by, cells_by, found_at, made_step}
-use Rattle.vfm_plant.specs.Outcome.{Attempt, HasDrawn, IsSeen, IsWished, WantsNothing, bytes_in_group, bytes_read}
+use Rattle.vfm_plant.specs.Outcome.{Attempt, HasDrawn, IsOtherCell, IsSeen, IsWished, WantsNothing, bytes_in_group, bytes_read}
 
 -- what is held stands in the world
 abbrev StandIn : Desc → World → List (Holding Cell) → Type 0
@@ -316,3 +317,45 @@ length_group lead devs = ap suc (length_devs 1 devs)
 pub copy_judged : (D : Desc) (lead : Lead) (devs : List Dev) (p : ℕ) (rule : Rule) → lead_fault D lead devs (Copy p) ≡ Some rule
     → fault_on D (group D lead devs []) (Copy p) ≡ Some rule
 copy_judged D lead devs p rule broken = broken
+
+-- another seat is in the page's cell
+pub other_copy : (D : Desc) (lead : Lead) (devs : List Dev) (seen : MoveLook) (abort_after p cell : ℕ) (holds : List (Holding Cell)) → length devs ≡ device_count D
+    → Shows D (parts_of lead devs) seen → next_want D seen abort_after ≡ Do (Copy p) → cell ≡ page_number D p → holds ≡ group_holds lead devs
+    → IsOtherCell D (wish.Coordinator abort_after) (map settled_of holds) cell
+other_copy D lead devs seen abort_after p cell holds count shows wants is stands = λ w whole there.
+    let all : StandIn D w (group_holds lead devs ++ []) = subst (StandIn D w) (stands ∙ sym (append-nil (group_holds lead devs))) there in
+    let same = group_world D w lead devs [] whole count all in
+    (p, seen, subst (λ (v : World). Shows D (parts_in v) seen) (sym same) (shows_in D lead devs w.pages seen shows), wants, is)
+
+-- nothing is wanted, or what a seat doesn't make
+pub wants_none : (D : Desc) (w : World) (seen : MoveLook) (abort_after : ℕ) (want : Want) → want ≡ next_want D seen abort_after → ((e : Entry) → want ≡ Do e → ⊥)
+    → WantsNothing D w seen abort_after
+wants_none D w seen abort_after found is none = λ other wanted made named fine. none other (is ∙ wanted)
+
+pub wants_else : (D : Desc) (w : World) (seen : MoveLook) (abort_after : ℕ) (e : Entry) (b c : Bool) → Do e ≡ next_want D seen abort_after
+    → b ≡ is_made_by_seats e → c ≡ is_entry_of D e → (not b || not c) ≡ true → WantsNothing D w seen abort_after
+wants_else D w seen abort_after e b c is made there barred = λ other wanted mine named fine.
+    let same : e ≡ other = do_same e other (is ∙ wanted) in
+    never b c (made ∙ (ap is_made_by_seats same ∙ mine)) (there ∙ (ap (is_entry_of D) same ∙ named)) barred
+  where
+    never : (b c : Bool) → b ≡ true → c ≡ true → (not b || not c) ≡ true → ⊥
+    never true true x y z = false≢true z
+    never true false x y z = false≢true y
+    never false c x y z = false≢true x
+
+pub made_kind : (e : Entry) → is_made_by_seats e ≡ true → ((p : ℕ) → e ≡ Copy p → ⊥) → is_of_lead e ≡ true
+made_kind (Issue d n) made copy = absurd (false≢true made)
+made_kind (Deliver d n) made copy = absurd (false≢true made)
+made_kind (Complete d n) made copy = absurd (false≢true made)
+made_kind (Hold d to) made copy = refl
+made_kind (Arc d to) made copy = refl
+made_kind (Fail d to) made copy = refl
+made_kind (Report d) made copy = refl
+made_kind (Pass k) made copy = refl
+made_kind (Copy p) made copy = absurd (copy p refl)
+made_kind (Block d b) made copy = refl
+made_kind (Dry d) made copy = refl
+made_kind Begin made copy = refl
+made_kind Joint made copy = refl
+made_kind Abort made copy = absurd (false≢true made)
+made_kind Resume made copy = refl
