@@ -2,3 +2,4 @@ pub mod Holds
 pub mod Turns
 pub mod GroupHands
 pub mod Coordinators
+pub mod Seats

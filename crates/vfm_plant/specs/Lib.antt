@@ -2,3 +2,4 @@ pub mod Hands
 pub mod Group
 pub mod Outcome
 pub mod Started
+pub mod Seat

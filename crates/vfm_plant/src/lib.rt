@@ -7,7 +7,9 @@ mod device;
 mod group;
 mod hand;
 mod plant;
+mod seat;
 mod stepped;
 
 pub use plant::Plant;
+pub use seat::PlantSeat;
 pub use stepped::{Look, Stepped, Wish};
