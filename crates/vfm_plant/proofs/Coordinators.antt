@@ -1,5 +1,5 @@
 -- What came of the coordinator's wish.
-use Rattle.std.proofs.Common.{◌≡◌, ◌≢◌, ℕ, suc, zero, ◌+◌, ◌*◌, ◌<◌, ◌≤◌, ◌==◌, ◌||◌, not, append-nil, Bool, true, false, nat_lt, take, drop, ltb-true, eqb-true, ⊎_elim, List, [], ◌∷◌, ◌++◌, map, length, Some, None, IsTrue, refl, ap, ap₂, sym, subst, ◌∙◌, arith}
+use Rattle.std.proofs.Common.{◌≡◌, ℕ, suc, zero, ◌+◌, ◌*◌, ◌<◌, ◌≤◌, ◌==◌, ◌||◌, not, append-nil, Bool, true, false, nat_lt, take, drop, ltb-true, eqb-true, ⊎_elim, List, [], ◌∷◌, ◌++◌, map, length, Some, refl, ap, ap₂, sym, subst, ◌∙◌, arith}
 use Rattle.vfm_types.specs.declared.desc.Desc.{Desc}
 use Rattle.vfm_types.specs.declared.entry.Entry.{Entry}
 use Rattle.std.proofs.lemmas.Bool.{eq-eqb, and_parts, cases_lt, false≢true}
@@ -24,10 +24,8 @@ use Rattle.vfm_cells.proofs.Numbers.{copy_page, two_dev, up_has}
 use Rattle.vfm_parts.specs.Parts.{Dev, Lead, Parts, World, parts_in, dev_at, no_dev, listed}
 use Rattle.vfm_parts.proofs.Listed.{listed_at, listed_items, listed_same}
 use Rattle.vfm_quiet.specs.declared.move_look.MoveLook.{MoveLook}
-use Rattle.vfm_turn.specs.declared.seen.Stand.{Stand}
-use Rattle.vfm_turn.specs.Log.{Each}
 use Rattle.vfm_turn.specs.Seen.{Hold as Holding, hold, settled_of}
-use Rattle.vfm_cells.specs.Cells.{Cell, page_cell, page_number, bytes_or_none, device_cell, lead_cell, dev_or_none, lead_or_first, cell_at, cell_count, dev_number, IsWhole}
+use Rattle.vfm_cells.specs.Cells.{Cell, page_cell, page_number, bytes_or_none, device_cell, dev_or_none, lead_or_first, cell_at, cell_count, dev_number, IsWhole}
 use Rattle.vfm_cells.proofs.Whole.{cell_dev, cell_page}
 use Rattle.vfm_lead.specs.LeadSteps.{AreSound, dev_of_list, lead_fault, is_of_lead, parts_of}
 use Rattle.vfm_lead.specs.Shown.{Shows}
@@ -79,8 +77,22 @@ pub shows_in : (D : Desc) (lead : Lead) (devs : List Dev) (pages : List (List �
     → Shows D (parts_in (world_with lead devs pages)) seen
 shows_in D lead devs pages seen s =
     record {
-      begun = s.begun; joint = s.joint; aborted = s.aborted; resumed = s.resumed; failed = s.failed; passes = s.passes; ended = s.ended; last = s.last;
-      set = s.set; next_copy = s.next_copy; part = s.part; next_block = s.next_block; count = s.count; reported = s.reported; devices = s.devices; ready = s.ready;
+      begun = s.begun;
+      joint = s.joint;
+      aborted = s.aborted;
+      resumed = s.resumed;
+      failed = s.failed;
+      passes = s.passes;
+      ended = s.ended;
+      last = s.last;
+      set = s.set;
+      next_copy = s.next_copy;
+      part = s.part;
+      next_block = s.next_block;
+      count = s.count;
+      reported = s.reported;
+      devices = s.devices;
+      ready = s.ready;
     }
 
 -- there is nothing to be made in it
@@ -279,9 +291,10 @@ copy_turn D holds hands lead lead' devs bytes p cell count inside is stands are 
       below = λ c among.
           has_either (λ k. k < cell_count D) c cell (up_from 0 (device_count D + 1)) (ap (has c) (sym cells') ∙ among)
           (λ h. group_below D lead' devs c count (ap (has c) (cells_of_group D lead' devs count) ∙ h)) (page_past D p cell inside is);
-      among = subst (λ (cells : List ℕ). AreAmong (0 ∷ page_number D p ∷ []) cells) (sym cells')
-          (has_more 0 (up_from 0 (device_count D + 1)) (cell ∷ []) (up_has 0 0 (device_count D + 1) (omega arith) (omega arith)),
-          (subst (λ (k : ℕ). has k (up_from 0 (device_count D + 1) ++ cell ∷ []) ≡ true) is (has_end cell (up_from 0 (device_count D + 1))), tt));
+      among = subst (λ (cells : List ℕ). AreAmong (0 ∷ page_number D p ∷ []) cells) (sym cells') (
+        has_more 0 (up_from 0 (device_count D + 1)) (cell ∷ []) (up_has 0 0 (device_count D + 1) (omega arith) (omega arith)),
+        (subst (λ (k : ℕ). has k (up_from 0 (device_count D + 1) ++ cell ∷ []) ≡ true) is (has_end cell (up_from 0 (device_count D + 1))), tt),
+      );
       step = step;
     }
 
@@ -300,11 +313,11 @@ pub copy_holding : (D : Desc) (lead : Lead) (devs : List Dev) (page : Cell) (p c
 copy_holding D lead devs page p cell hands sound is fits are =
     let count = sound.devs_fit.count in (
       ap (λ (hs : List Hand). are_once (cells_held hs)) are
-      ∙ (ap are_once (map_end hand_cell (group_hands lead devs) (hand_of cell page))
-      ∙ once_end cell (cells_held (group_hands lead devs)) (group_once lead devs) (group_past lead devs cell (omega arith))),
+          ∙ (ap are_once (map_end hand_cell (group_hands lead devs) (hand_of cell page))
+          ∙ once_end cell (cells_held (group_hands lead devs)) (group_once lead devs) (group_past lead devs cell (omega arith))),
       subst (AreFitting D) (sym are)
-      (All-push (λ (h : Hand). CellFits D h.cell h.part) (group_hands lead devs) (hand_of cell page)
-      (group_fits D lead devs sound.lead_fits (omega arith) (λ i h. sound.devs_fit.each i (omega arith))) fits),
+          (All-push (λ (h : Hand). CellFits D h.cell h.part) (group_hands lead devs) (hand_of cell page)
+          (group_fits D lead devs sound.lead_fits (omega arith) (λ i h. sound.devs_fit.each i (omega arith))) fits),
     )
 
 length_devs : (k : ℕ) (devs : List Dev) → length (dev_hands k devs) ≡ length devs

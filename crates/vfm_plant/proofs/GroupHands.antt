@@ -1,7 +1,6 @@
 -- The hands on the cells of the coordinator and the devices.
-use Rattle.std.proofs.Common.{◌≡◌, ℕ, zero, suc, ◌+◌, ◌<◌, ◌≤◌, ◌==◌, ◌||◌, ◌&&◌, not, Bool, true, false, nat_lt, List, [], ◌∷◌, ◌++◌, map, length, take, refl, ap, ap₂, sym, subst, ◌∙◌, arith, lt-ltb, ⊎_elim, slice_index_or}
-use Rattle.std.proofs.lemmas.Bool.{eq-eqb, ne_eqb, cases_eq, false≢true}
-use Rattle.std.specs.List.{All}
+use Rattle.std.proofs.Common.{◌≡◌, ℕ, zero, suc, ◌+◌, ◌<◌, ◌≤◌, ◌||◌, ◌&&◌, not, Bool, true, false, List, [], ◌∷◌, ◌++◌, map, length, take, refl, ap, ap₂, sym, subst, ◌∙◌, arith, lt-ltb, ⊎_elim, slice_index_or}
+use Rattle.std.proofs.lemmas.Bool.{ne_eqb, cases_eq, false≢true}
 use Rattle.vfm_types.specs.declared.desc.Desc.{Desc}
 use Rattle.vfm_types.specs.declared.entry.Entry.{Entry}
 use Rattle.vfm_types.specs.declared.entry.Entry.TheVariants.{Issue, Deliver, Complete, Hold, Arc, Fail, Report, Pass, Copy, Block, Dry, Begin, Joint, Abort, Resume}
@@ -17,10 +16,10 @@ use Rattle.vfm_cells.specs.Cells.{Cell, lead_cell, device_cell, cell_at}
 use Rattle.vfm_cells.specs.CellFits.{CellFits}
 use Rattle.vfm_cells.specs.Touched.{touched, up_from}
 use Rattle.vfm_cells.proofs.Fitting.{dev_cell_fits}
-use Rattle.vfm_lead.specs.LeadSteps.{AreSound, dev_of_list}
+use Rattle.vfm_lead.specs.LeadSteps.{dev_of_list}
 use Rattle.vfm_plant.specs.declared.hand.Hand.{Hand}
 use Rattle.vfm_plant.specs.Group.{hand_of, dev_hands, group_hands, group_holds, IsGroupTurn}
-use Rattle.vfm_plant.specs.Hands.{cells_held, AreAmong, AreFitting, IsHolding, IsMaking, rest_of}
+use Rattle.vfm_plant.specs.Hands.{cells_held, AreFitting, IsHolding, IsMaking, rest_of}
 use Rattle.vfm_plant.proofs.Holds.{map_end}
 
 pub dev_hands_end : (k : ℕ) (devs : List Dev) (dev : Dev) → dev_hands k (devs ++ dev ∷ []) ≡ dev_hands k devs ++ hand_of (k + length devs) (device_cell dev) ∷ []

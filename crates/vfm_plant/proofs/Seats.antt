@@ -1,7 +1,6 @@
 -- A seat after a call.
-use Rattle.std.proofs.Common.{◌≡◌, ℕ, ◌+◌, ◌<◌, ◌≤◌, List, [], ◌∷◌, ◌++◌, map, reverse, length, append-nil, refl, ap, ap₂, sym, subst, ◌∙◌, arith, inl, inr, length-append}
+use Rattle.std.proofs.Common.{◌≡◌, ℕ, ◌+◌, ◌≤◌, List, [], ◌∷◌, ◌++◌, map, reverse, length, append-nil, refl, ap, ap₂, sym, subst, ◌∙◌, arith, inl, inr, length-append}
 use Rattle.std.proofs.lemmas.List.{length-reverse, reverse-append}
-use Rattle.vfm_types.specs.declared.desc.Desc.{Desc}
 use Rattle.vfm_types.specs.declared.entry.Entry.{Entry}
 use Rattle.vfm_turn.specs.declared.seen.Drawn.{Drawn}
 use Rattle.vfm_turn.specs.Seen.{Seen}
@@ -50,18 +49,18 @@ seat_after a (stepped.Nothing at seen) made after o are steps is =
 seat_after a (stepped.Busy cell holder) made after o are steps is =
     subst (After a made) (sym are)
     (elim o.met [
-    | inl x ↦ record {
-      rest = ap (λ (s : Seen Cell). s.holds) x.seen;
-      steps = subst (λ (s : Seen Cell). AreSteps a.desc s.records) (sym x.seen) steps;
-      made = ap (λ (s : Seen Cell). map (made_of a.base) s.records) x.seen ∙ same_made made _ is;
-      few = (let len = ap (λ (ms : List Made). length ms) (append-nil made) in omega arith);
-    }
-    | inr x ↦ record {
-      rest = ap (λ (s : Seen Cell). s.holds) x.seen;
-      steps = subst (λ (s : Seen Cell). AreSteps a.desc s.records) (sym x.seen) steps;
-      made = ap (λ (s : Seen Cell). map (made_of a.base) s.records) x.seen ∙ same_made made _ is;
-      few = (let len = ap (λ (ms : List Made). length ms) (append-nil made) in omega arith);
-    }
+      | inl x ↦ record {
+        rest = ap (λ (s : Seen Cell). s.holds) x.seen;
+        steps = subst (λ (s : Seen Cell). AreSteps a.desc s.records) (sym x.seen) steps;
+        made = ap (λ (s : Seen Cell). map (made_of a.base) s.records) x.seen ∙ same_made made _ is;
+        few = (let len = ap (λ (ms : List Made). length ms) (append-nil made) in omega arith);
+      }
+      | inr x ↦ record {
+        rest = ap (λ (s : Seen Cell). s.holds) x.seen;
+        steps = subst (λ (s : Seen Cell). AreSteps a.desc s.records) (sym x.seen) steps;
+        made = ap (λ (s : Seen Cell). map (made_of a.base) s.records) x.seen ∙ same_made made _ is;
+        few = (let len = ap (λ (ms : List Made). length ms) (append-nil made) in omega arith);
+      }
     ])
 
 pub count_same : (base : ℕ) (records : List (Drawn Cell)) (made : List Made) → map (made_of base) records ≡ reverse made → length records ≡ length made

@@ -2,7 +2,7 @@
 use Rattle.std.specs.Prelude.{◌≡◌, ◌≢◌, ℕ, ◌+◌, ◌*◌, ◌<◌, ◌≤◌, ◌⊎◌, true, List, [], ◌∷◌, map, take, drop, Option, Some, None, IsTrue}
 use Rattle.vfm_types.specs.declared.desc.Desc.{Desc}
 use Rattle.vfm_types.specs.declared.entry.Entry.{Entry}
-use Rattle.vfm_types.specs.declared.entry.Entry.TheVariants.{Deliver, Copy, Block, Abort}
+use Rattle.vfm_types.specs.declared.entry.Entry.TheVariants.{Deliver, Copy, Block}
 use Rattle.vfm_types.specs.declared.job.Region.{Region}
 use Rattle.vfm_types.specs.Desc.{device_count}
 use Rattle.vfm_plain.specs.Legal.{is_entry_of}

@@ -2,10 +2,9 @@
 use Rattle.std.specs.Prelude.{◌≡◌, ℕ, ◌+◌, ◌<◌, ◌≤◌, List, [], ◌∷◌, map, reverse, length, vec_capacity}
 use Rattle.vfm_types.specs.declared.desc.Desc.{Desc}
 use Rattle.vfm_types.specs.Desc.{device_count}
-use Rattle.vfm_turn.specs.declared.seen.Busy.{Busy}
 use Rattle.vfm_turn.specs.declared.seen.Drawn.{Drawn}
 use Rattle.vfm_turn.specs.declared.seen.Past.{Past}
-use Rattle.vfm_turn.specs.Words.{IsTicketOf, holds_of, meetings_of, number_of, past_told, records_of}
+use Rattle.vfm_turn.specs.Words.{IsTicketOf, holds_of, number_of, past_told, records_of}
 use Rattle.vfm_cells.specs.Cells.{Cell}
 use Rattle.vfm_cells.specs.WholeRun.{AreSteps}
 use Rattle.vfm_plant.specs.declared.plant.Plant.{Plant}

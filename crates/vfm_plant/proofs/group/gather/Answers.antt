@@ -1,10 +1,10 @@
 -- One more device.
-use Rattle.std.proofs.Common.{◌≡◌, ℕ, ◌+◌, ◌≤◌, List, [], ◌∷◌, ◌++◌, reverse, length, refl, ap, ap₂, sym, ◌∙◌, append_assoc, arith, rules, vec_len}
-use Rattle.std.proofs.lemmas.List.{length-reverse, reverse-append, reverse-reverse}
+use Rattle.std.proofs.Common.{◌≡◌, ◌+◌, List, [], ◌∷◌, ◌++◌, reverse, length, ap, ap₂, sym, ◌∙◌, append_assoc, arith}
+use Rattle.std.proofs.lemmas.List.{reverse-append, reverse-reverse}
 use Rattle.vfm_parts.specs.Parts.{Dev}
 use Rattle.vfm_cells.specs.Cells.{Cell, lead_cell, device_cell}
 use Rattle.vfm_plant.specs.declared.hand.Hand.{Hand}
-use Rattle.vfm_plant.specs.Group.{dev_hands, group_hands, hand_of}
+use Rattle.vfm_plant.specs.Group.{dev_hands, hand_of}
 use Rattle.vfm_plant.proofs.group.gather.Goals as goal
 
 pub loop-device-init : goal.loop-device-init

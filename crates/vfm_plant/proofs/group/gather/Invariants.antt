@@ -1,5 +1,5 @@
 -- The devices that are left, last first, follow those in the hands.
-use Rattle.std.proofs.Common.{◌≡◌, ℕ, ◌+◌, ◌++◌, reverse, vec_len, vec_capacity}
+use Rattle.std.proofs.Common.{◌≡◌, ◌+◌, ◌++◌, reverse, vec_len, vec_capacity}
 use Rattle.vfm_plant.specs.Group.{dev_hands, group_hands}
 use Rattle.vfm_plant.proofs.group.gather.Given as goal
 

@@ -1,12 +1,12 @@
 -- One more device.
-use Rattle.std.proofs.Common.{◌≡◌, ℕ, ◌+◌, ◌<◌, ◌≤◌, List, [], ◌∷◌, ◌++◌, length, refl, ap, sym, subst, ◌∙◌, arith, vec_len}
+use Rattle.std.proofs.Common.{◌≡◌, ℕ, ◌+◌, ◌<◌, ◌≤◌, List, [], ◌∷◌, ◌++◌, length, refl, ap, sym, subst, ◌∙◌, arith}
 use Rattle.vfm_types.specs.declared.desc.Desc.{Desc}
 use Rattle.vfm_types.specs.Desc.{device_count}
 use Rattle.vfm_parts.specs.Parts.{Dev}
 use Rattle.vfm_parts.specs.Fits.{DevFits}
 use Rattle.vfm_turn.specs.Seen.{Hold, Seen, hold, entered, is_held}
 use Rattle.vfm_turn.specs.Words.{holds_of, seen_of}
-use Rattle.vfm_cells.specs.Cells.{Cell, device_cell}
+use Rattle.vfm_cells.specs.Cells.{Cell}
 use Rattle.vfm_lead.specs.LeadSteps.{dev_of_list}
 use Rattle.vfm_plant.specs.Group.{group_hands, group_holds}
 use Rattle.vfm_plant.specs.Hands.{IsHolding, with_holds}

@@ -1,6 +1,5 @@
 -- The cells of the devices before this one are entered.
-use Rattle.std.proofs.Common.{◌≡◌, ℕ, ◌<◌, ◌≤◌, ◌+◌, [], vec_len, vec_capacity}
-use Rattle.vfm_types.specs.Desc.{device_count}
+use Rattle.std.proofs.Common.{◌≡◌, ℕ, ◌<◌, vec_len, vec_capacity}
 use Rattle.vfm_parts.specs.Fits.{DevFits, LeadFits}
 use Rattle.vfm_turn.specs.Words.{IsTicketOf, number_of, seen_of}
 use Rattle.vfm_lead.specs.LeadSteps.{dev_of_list}

@@ -1,13 +1,12 @@
 -- The page's cell is held besides.
-use Rattle.std.proofs.Common.{◌≡◌, ℕ, suc, ◌+◌, ◌<◌, ◌≤◌, [], ◌∷◌, ◌++◌, List, map, length, refl, ap, sym, subst, ◌∙◌, arith, vec_len, vec_capacity, true}
+use Rattle.std.proofs.Common.{◌≡◌, ℕ, ◌+◌, [], ◌∷◌, ◌++◌, List, map, length, refl, ap, sym, subst, ◌∙◌, arith}
 use Rattle.vfm_types.specs.declared.desc.Desc.{Desc}
 use Rattle.vfm_types.specs.declared.entry.Entry.{Entry}
 use Rattle.vfm_types.specs.declared.entry.Entry.TheVariants.{Copy}
 use Rattle.vfm_types.specs.Desc.{device_count}
-use Rattle.vfm_parts.specs.Parts.{Dev, Lead, listed}
-use Rattle.vfm_turn.specs.Order.{are_once}
+use Rattle.vfm_parts.specs.Parts.{Lead, listed}
 use Rattle.vfm_turn.specs.Seen.{Hold, hold, settled_of}
-use Rattle.vfm_turn.specs.Words.{desc_of, holds_of, seen_of}
+use Rattle.vfm_turn.specs.Words.{holds_of}
 use Rattle.vfm_cells.specs.Cells.{Cell, page_cell}
 use Rattle.vfm_cells.specs.CellFits.{CellFits}
 use Rattle.vfm_lead.specs.LeadSteps.{AreSound}
@@ -15,8 +14,8 @@ use Rattle.vfm_cell_steps.specs.Made.{IsStepTo, group}
 use Rattle.vfm_plant.specs.declared.hand.Hand.{Hand}
 use Rattle.vfm_plant.specs.declared.stepped.Wish.TheVariants as wish
 use Rattle.vfm_plant.specs.declared.stepped.Look.TheVariants as looks
-use Rattle.vfm_plant.specs.Group.{hand_of, group_hands, group_holds}
-use Rattle.vfm_plant.specs.Hands.{AreFitting, IsHolding, cells_held, rest_of}
+use Rattle.vfm_plant.specs.Group.{hand_of, group_hands}
+use Rattle.vfm_plant.specs.Hands.{IsHolding, rest_of}
 use Rattle.vfm_plant.specs.Outcome.{HasDrawn, IsSeen, attempted}
 use Rattle.vfm_plant.proofs.Holds.{map_end}
 use Rattle.vfm_plant.proofs.Coordinators.{copy_holding, copy_judged, copy_reads, copy_turn, lead_drawn, length_group, seen_rests, shows_in, wants_barred}
@@ -69,8 +68,7 @@ turn_group-stamp-requires-clause-turn c =
     c.push_reserved.ensures.items ∙ (ap (λ (hs : List Hand). hs ++ hand_of s.cell c.of_page.result ∷ []) c.gather.ensures.hands
     ∙ ap (λ (p : Cell). group_hands lead' devs ++ hand_of s.cell p ∷ []) c.of_page.ensures) in
     let step : IsStepTo D (Copy s.p) (group D chair.part devs s.page) (group D lead' devs s.page) =
-    rw (c.again.ensures, c.as_slice.ensures.value) at (c.in-Ok.ensures.step s.page) in
-    (
+    rw (c.again.ensures, c.as_slice.ensures.value) at (c.in-Ok.ensures.step s.page) in (
       group D chair.part devs s.page,
       group D lead' devs s.page,
       copy_turn D (holds_of c.args.t.now) c.push_reserved.new.self.items chair.part lead' devs s.page s.p s.cell c.requires.sound.devs_fit.count
@@ -89,7 +87,7 @@ see_rests-requires-clause-held c =
     ∙ (ap (λ (p : Cell). group_hands lead' devs ++ hand_of s.cell p ∷ []) c.of_page.ensures
     ∙ ap (λ (l : Lead). group_hands l devs ++ hand_of s.cell (page_cell s.page) ∷ []) c.in-Err.ensures.same)) in
     let both = copy_holding D chair.part devs (page_cell s.page) s.p s.cell c.push_reserved.new.self.items c.requires.sound c.requires.cell
-        (page_fit D s.p s.cell s.page c.requires.cell c.requires.fits) are in
+    (page_fit D s.p s.cell s.page c.requires.cell c.requires.fits) are in
     subst (λ (E : Desc). IsHolding E (holds_of c.args.t.now) c.push_reserved.new.self.items) (sym c.requires.plant.same)
     record {
       holds_are = c.requires.held ∙ (sym (map_end rest_of (group_hands chair.part devs) (hand_of s.cell (page_cell s.page))) ∙ ap (map rest_of) (sym are));
@@ -123,7 +121,7 @@ returns-in-Ok-clause-outcome c =
     let v = group D lead' devs s.page in
     let step : IsStepTo D (Copy s.p) w v = rw (c.again.ensures, c.as_slice.ensures.value) at (c.in-Ok.ensures.step s.page) in
     let turn = copy_turn D (holds_of c.args.t.now) c.push_reserved.new.self.items chair.part lead' devs s.page s.p s.cell c.requires.sound.devs_fit.count
-        c.requires.page c.requires.cell c.requires.held are step in
+    c.requires.page c.requires.cell c.requires.held are step in
     let a = record (attempted c.args.self.now (wish.Coordinator chair.abort_after) c.args.t.now c.turn_group-stamp.new.t) { bytes = s.page } in
     subst (λ (x : Entry). HasDrawn a (c.base.result + stamp) x) (sym c.again-in-Ok.ensures)
     (lead_drawn a chair.abort_after (c.base.result + stamp) stamp (Copy s.p) w v chair.look refl step (c.turn_group-stamp.ensures.turned w v turn)

@@ -1,16 +1,15 @@
 -- The step is one of the group.
-use Rattle.std.proofs.Common.{◌≡◌, ℕ, ◌+◌, ◌<◌, ◌≤◌, [], List, length, refl, ap, ap₂, sym, subst, ◌∙◌, arith}
+use Rattle.std.proofs.Common.{ℕ, ◌+◌, [], List, refl, ap, sym, subst, ◌∙◌, arith}
 use Rattle.vfm_types.specs.declared.entry.Entry.{Entry}
-use Rattle.vfm_types.specs.Desc.{device_count}
 use Rattle.vfm_parts.specs.Parts.{Dev, Lead, listed}
 use Rattle.vfm_turn.specs.Order.{are_once}
-use Rattle.vfm_turn.specs.Words.{holds_of, seen_of}
+use Rattle.vfm_turn.specs.Words.{holds_of}
 use Rattle.vfm_core.proofs.LeadWorlds.{lead_judged}
 use Rattle.vfm_cell_steps.specs.Made.{group}
 use Rattle.vfm_plant.specs.declared.hand.Hand.{Hand}
 use Rattle.vfm_plant.specs.declared.stepped.Wish.TheVariants as wish
 use Rattle.vfm_plant.specs.Hands.{AreFitting, cells_held}
-use Rattle.vfm_plant.specs.Outcome.{HasDrawn, IsOutcome, WantsNothing, attempted, bytes_in_group, bytes_of_answer}
+use Rattle.vfm_plant.specs.Outcome.{HasDrawn, IsOutcome, WantsNothing, attempted, bytes_in_group}
 use Rattle.vfm_plant.proofs.Coordinators.{group_turn, group_reads, lead_drawn, shows_in, wants_barred}
 use Rattle.vfm_plant.proofs.GroupHands.{group_fits, group_once}
 use Rattle.vfm_plant.proofs.plant.Plant.make_group.Goals as goal
@@ -32,8 +31,7 @@ turn_group-stamp-requires-clause-turn c =
     let D = c.args.self.now.desc in
     let e = c.args.e.now in
     let chair = c.args.chair in
-    let devs = c.args.devices.now.items in
-    (
+    let devs = c.args.devices.now.items in (
       group D chair.part devs [],
       group D c.step_all.new.lead c.step_all.new.devices.items [],
       group_turn D e (holds_of c.args.t.now) c.gather.new.hands.items chair.part c.step_all.new.lead devs c.step_all.new.devices.items []
@@ -66,7 +64,7 @@ returns-in-Ok-clause-outcome c =
     let v = group D lead' devs' [] in
     let step = rw c.again.ensures at (c.in-Ok.ensures.step []) in
     let turn = group_turn D e (holds_of c.args.t.now) c.gather.new.hands.items chair.part lead' devs devs' []
-        c.requires.sound.devs_fit.count c.in-Ok.ensures.sound.devs_fit.count c.requires.kind c.requires.named c.requires.held c.gather.ensures.hands step in
+    c.requires.sound.devs_fit.count c.in-Ok.ensures.sound.devs_fit.count c.requires.kind c.requires.named c.requires.held c.gather.ensures.hands step in
     let a = record (attempted c.args.self.now (wish.Coordinator chair.abort_after) c.args.t.now c.turn_group-stamp.new.t) { bytes = bytes_in_group chair.part devs e } in
     subst (λ (x : Entry). HasDrawn a (c.base.result + stamp) x) (sym c.again-in-Ok.ensures)
     (lead_drawn a chair.abort_after (c.base.result + stamp) stamp e w v chair.look refl step (c.turn_group-stamp.ensures.turned w v turn)

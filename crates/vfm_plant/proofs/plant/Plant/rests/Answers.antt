@@ -1,5 +1,5 @@
 -- Each cell is held.
-use Rattle.std.proofs.Common.{◌≡◌, ℕ, ◌≤◌, [], ◌++◌, List, map, append-nil, refl, ap, sym, subst, ◌∙◌, arith}
+use Rattle.std.proofs.Common.{[], List, map, append-nil, sym, subst, ◌∙◌, arith}
 use Rattle.vfm_types.specs.declared.desc.Desc.{Desc}
 use Rattle.vfm_turn.specs.Seen.{Hold, settled_of}
 use Rattle.vfm_turn.specs.Words.{holds_of}

@@ -1,5 +1,5 @@
 -- All that is held is noted and left.
-use Rattle.std.proofs.Common.{◌≡◌, ℕ, ◌+◌, [], List, refl, ap, sym, subst, ◌∙◌}
+use Rattle.std.proofs.Common.{ℕ, ◌+◌, List, refl, ap, sym, subst, ◌∙◌}
 use Rattle.vfm_turn.specs.Seen.{Hold, Seen}
 use Rattle.vfm_turn.specs.Words.{desc_of, holds_of}
 use Rattle.vfm_cells.specs.Cells.{Cell}

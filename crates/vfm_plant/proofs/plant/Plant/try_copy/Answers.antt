@@ -1,11 +1,10 @@
 -- The page's cell is another than those that are held.
-use Rattle.std.proofs.Common.{◌≡◌, ℕ, suc, ◌+◌, ◌<◌, ◌≤◌, inr, [], List, length, refl, ap, sym, subst, ◌∙◌, arith}
+use Rattle.std.proofs.Common.{◌≡◌, ◌+◌, ◌<◌, inr, length, ap, sym, subst, ◌∙◌, arith}
 use Rattle.vfm_types.specs.declared.desc.Desc.{Desc}
-use Rattle.vfm_types.specs.Desc.{device_count}
-use Rattle.vfm_turn.specs.Seen.{Hold, Seen, is_held, met, noted}
-use Rattle.vfm_turn.specs.Words.{holds_of, seen_of}
+use Rattle.vfm_turn.specs.Seen.{Seen, is_held, noted}
+use Rattle.vfm_turn.specs.Words.{holds_of}
 use Rattle.vfm_cells.specs.Cells.{Cell, page_number}
-use Rattle.vfm_plant.specs.Group.{group_hands, group_holds}
+use Rattle.vfm_plant.specs.Group.{group_hands}
 use Rattle.vfm_plant.specs.Hands.{IsHolding, at_rest}
 use Rattle.vfm_plant.proofs.Holds.{rest_has}
 use Rattle.vfm_plant.proofs.GroupHands.{group_holding, group_past}

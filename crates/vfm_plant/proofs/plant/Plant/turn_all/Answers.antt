@@ -31,8 +31,7 @@ turn-requires-clause-among c =
 pub turn-requires-clause-making : goal.turn-requires-clause-making
 turn-requires-clause-making c =
     let D = c.args.self.now.desc in
-    let turn = c.requires.turn in
-    (
+    let turn = c.requires.turn in (
       cell_at D turn.0,
       cell_at D turn.1,
       group_making D c.args.e.now (holds_of c.args.t.now) c.args.hands.now.items turn.0 turn.1 (take (c.len.result + 1) numbers) turn.2

@@ -1,5 +1,5 @@
 -- The entry touches these two cells.
-use Rattle.std.proofs.Common.{◌≡◌, ℕ, List, ap, sym, subst, ◌∙◌, ◌∷◌, []}
+use Rattle.std.proofs.Common.{ℕ, List, ap, sym, subst, ◌∙◌, ◌∷◌, []}
 use Rattle.vfm_parts.specs.Parts.{parts_in}
 use Rattle.vfm_turn.specs.Words.{holds_of, number_of, seen_of}
 use Rattle.vfm_cells.specs.Cells.{cell_at}
@@ -18,8 +18,7 @@ turn-requires-clause-among c =
 pub turn-requires-clause-making : goal.turn-requires-clause-making
 turn-requires-clause-making c =
     let D = c.args.self.now.desc in
-    let turn = c.requires.turn in
-    (
+    let turn = c.requires.turn in (
       cell_at D turn.0,
       cell_at D turn.1,
       group_making D c.args.e.now (holds_of c.args.t.now) c.args.hands.now.items turn.0 turn.1 (0 ∷ c.args.cell ∷ []) turn.2 (c.requires.touched (parts_in turn.0)),
