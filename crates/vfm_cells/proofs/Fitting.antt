@@ -22,7 +22,7 @@ use Rattle.vfm_cells.specs.Touched.{aim, has_region, is_aimed}
 use Rattle.vfm_cells.specs.CellSteps.{step_of}
 use Rattle.vfm_cells.proofs.Whole.{cell_dev, cell_page, by_cell, step_told}
 
-dev_cell_fits : (D : Desc) (k : ℕ) (dev : Dev) → k < device_count D → DevFits D k dev → CellFits D (dev_number k) (device_cell dev)
+pub dev_cell_fits : (D : Desc) (k : ℕ) (dev : Dev) → k < device_count D → DevFits D k dev → CellFits D (dev_number k) (device_cell dev)
 dev_cell_fits D k dev h fits =
     let same : k ≡ k + 1 - 1 = omega arith in (omega arith, omega arith, subst (λ (j : ℕ). DevFits D j dev) same fits)
 

@@ -121,13 +121,13 @@ either_below D a b c first second among =
     by_bool (a == c) (λ t. (a == c) ≡ t → (t || b == c) ≡ true → c < cell_count D)
     (λ here e h. one_below D a c first e) (λ away e h. one_below D b c second h) refl among
 
-dev_below : (D : Desc) (d : ℕ) → d < device_count D → dev_number d < cell_count D
+pub dev_below : (D : Desc) (d : ℕ) → d < device_count D → dev_number d < cell_count D
 dev_below D d h = omega arith
 
-page_below : (D : Desc) (i : ℕ) → i < D.pages → page_number D i < cell_count D
+pub page_below : (D : Desc) (i : ℕ) → i < D.pages → page_number D i < cell_count D
 page_below D i h = omega arith
 
-region_below : (D : Desc) (r : Region) → has_region D r ≡ true → region_number D r < cell_count D
+pub region_below : (D : Desc) (r : Region) → has_region D r ≡ true → region_number D r < cell_count D
 region_below D (Page i) there = page_below D i (ltb-true i D.pages there)
 region_below D (Bar t) there = dev_below D t (ltb-true t (device_count D) there)
 
@@ -144,7 +144,7 @@ all_below D c among =
     inside : c < device_count D + 1 → c < cell_count D
     inside h = omega arith
 
-touched_below : (D : Desc) (parts : Parts) (entry : Entry) → is_entry_of D entry ≡ true → is_aimed D parts entry ≡ true
+pub touched_below : (D : Desc) (parts : Parts) (entry : Entry) → is_entry_of D entry ≡ true → is_aimed D parts entry ≡ true
     → (c : ℕ) → has c (touched D parts entry) ≡ true → c < cell_count D
 touched_below D parts (Issue d n) named aimed c among =
     one_below D (dev_number d) c (dev_below D d (ltb-true d (device_count D) named)) (sym (or-false (dev_number d == c)) ∙ among)
@@ -163,7 +163,7 @@ touched_below D parts entry named aimed c among = all_below D c among
 
 -- ---- a step
 
-map_same : (cells : List ℕ) (f g : ℕ → Cell) → ((c : ℕ) → has c cells ≡ true → f c ≡ g c) → map f cells ≡ map g cells
+pub map_same : (cells : List ℕ) (f g : ℕ → Cell) → ((c : ℕ) → has c cells ≡ true → f c ≡ g c) → map f cells ≡ map g cells
 map_same [] f g h = refl
 map_same (k ∷ cells) f g h =
     ap₂ (λ (x : Cell) (xs : List Cell). x ∷ xs) (h k (ap (λ (b : Bool). b || has k cells) (eq-eqb k k refl)))

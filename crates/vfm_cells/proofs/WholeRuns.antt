@@ -15,7 +15,7 @@ use Rattle.vfm_cells.specs.WholeRun.{touch_cell, touch_before, touch_after, AreS
 use Rattle.vfm_cells.proofs.Whole.{step_told, after_whole}
 
 -- what the touched cells held before is what the world has in them
-before_is : (n : ℕ) (at there : ℕ → Cell) (touches : List (Touch Cell)) → ((c : ℕ) → c < n → there c ≡ at c) → Begins n at touches
+pub before_is : (n : ℕ) (at there : ℕ → Cell) (touches : List (Touch Cell)) → ((c : ℕ) → c < n → there c ≡ at c) → Begins n at touches
     → map touch_before touches ≡ map there (map touch_cell touches)
 before_is n at there [] same begins = refl
 before_is n at there (t ∷ touches) same begins =

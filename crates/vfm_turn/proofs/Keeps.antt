@@ -207,6 +207,12 @@ module _ {T Z : Type 0} (state : T → Z) (fits : Desc → ℕ → T → Type 0)
       (lives_on n r.at r.log r.log s.words s.words s.views (set s.views id w) key.desc key.seats id w refl (λ x h. h) (λ x h. h) on mine)
       (λ k u other here l. lives_on n r.at r.log r.log s.words s.words s.views (set s.views id w) key.desc key.seats k u refl (λ x h. h) (λ x h. h) on l))
 
+  -- a board has drawn fewer than 2^39 stamps
+  few_found : (s : S) → Rule s → get_or s.words 0 0 < 2 ^ 39
+  few_found s r =
+      let bound = length_bound (length s.views) 4294967296 r.log r.known r.few in
+      let within = r.within in let limit = r.limit in let counted = r.counted in omega arith
+
   -- a seat reads word 0
   pub notes : (slots id : ℕ) (me : M) → me.0.live ≡ true → Allows Rule slots id me 0 (λ m. m) (noting (step slots 0 0 0 none) me)
   notes slots id me live s r deep at lt = let v = me.0 in let l = r.alive id v at live in let found = get_or s.words 0 0 in let w = view_noted found v in
@@ -231,6 +237,7 @@ module _ {T Z : Type 0} (state : T → Z) (fits : Desc → ℕ → T → Type 0)
           refl,
           subst (λ (rs : List (Drawn Z)). All (λ e. e.stamp < found) rs) (sym l.drew) (subst (λ (a : ℕ). All (λ e. e.stamp < a) (drawn_by id r.log)) (sym r.counted) (own_stamps_below n r.at id r.log r.ran)),
           subst (λ (a : ℕ). All (λ x. x.answer ≤ a) v.notes) (sym r.counted) (answers_below n r.at r.log v.notes l.noted),
+          few_found s r,
         ),
       )
 
@@ -284,6 +291,7 @@ module _ {T Z : Type 0} (state : T → Z) (fits : Desc → ℕ → T → Type 0)
           refl,
           refl,
           subst (λ (rs : List (Drawn Z)). All (λ e. e.stamp < found) rs) (sym l.drew) (subst (λ (a : ℕ). All (λ e. e.stamp < a) (drawn_by id r.log)) (sym r.counted) (own_stamps_below n r.at id r.log r.ran)),
+          few_found s r,
         ),
       )
 

@@ -22,17 +22,17 @@ module _ {X : Type 0} where
   all_each P [] a = tt
   all_each P (x ∷ xs) a = (a 0 x (omega arith), all_each P xs (λ k d h. a (suc k) d (omega arith)))
 
-  each_drop : (P : X → Type 0) (k : ℕ) (xs : List X) → Each P xs → Each P (drop k xs)
+  pub each_drop : (P : X → Type 0) (k : ℕ) (xs : List X) → Each P xs → Each P (drop k xs)
   each_drop P zero xs e = e
   each_drop P (suc k) [] e = tt
   each_drop P (suc k) (x ∷ xs) e = each_drop P k xs e.1
 
-  get_some : (xs : List X) (k : ℕ) (x : X) → slice_get xs k ≡ Some x → k < length xs
+  pub get_some : (xs : List X) (k : ℕ) (x : X) → slice_get xs k ≡ Some x → k < length xs
   get_some [] k x e = cc
   get_some (y ∷ ys) zero x e = omega arith
   get_some (y ∷ ys) (suc k) x e = let h = get_some ys k x e in omega arith
 
-  get_there : (xs : List X) (k : ℕ) → k < length xs → (x : X) × (slice_get xs k ≡ Some x)
+  pub get_there : (xs : List X) (k : ℕ) → k < length xs → (x : X) × (slice_get xs k ≡ Some x)
   get_there [] k h = absurd (omega arith)
   get_there (y ∷ ys) zero h = (y, refl)
   get_there (y ∷ ys) (suc k) h = get_there ys k (omega arith)
@@ -107,7 +107,7 @@ module _ {Z : Type 0} where
   )
 
   -- what holds of what each seat drew holds of the whole log
-  each_seat : (P : Drawn Z → Type 0) (log : List (Drawn Z)) (ns : List ℕ) → Each (λ r. has r.by ns ≡ true) log → ((k : ℕ) → has k ns ≡ true → Each P (drawn_by k log)) → Each P log
+  pub each_seat : (P : Drawn Z → Type 0) (log : List (Drawn Z)) (ns : List ℕ) → Each (λ r. has r.by ns ≡ true) log → ((k : ℕ) → has k ns ≡ true → Each P (drawn_by k log)) → Each P log
   each_seat P [] ns among f = tt
   each_seat P (r ∷ log) ns among f = (
     (subst (Each P) (drawn_here r.by r log refl) (f r.by among.0)).0,
@@ -115,7 +115,7 @@ module _ {Z : Type 0} where
   )
 
   -- what one of the tickets drew
-  of_ticket : (P : Drawn Z → Type 0) (n : ℕ) (at : ℕ → Z) (log : List (Drawn Z)) (told : List (Past Z)) → Each (IsPast n at log) told → Each (λ p. Each P p.records) told
+  pub of_ticket : (P : Drawn Z → Type 0) (n : ℕ) (at : ℕ → Z) (log : List (Drawn Z)) (told : List (Past Z)) → Each (IsPast n at log) told → Each (λ p. Each P p.records) told
       → (k : ℕ) → has k (map past_number told) ≡ true → Each P (drawn_by k log)
   of_ticket P n at log [] pasts right k h = absurd (false≢true h)
   of_ticket P n at log (p ∷ told) pasts right k h = dite (ℕ_discrete p.number k)

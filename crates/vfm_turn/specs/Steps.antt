@@ -1,5 +1,5 @@
 -- What each step on a word of the board makes of a seat, and what it tells it.
-use Rattle.std.specs.Prelude.{◌≡◌, ◌≢◌, ℕ, ◌+◌, ◌-◌, ◌<◌, ◌≤◌, ◌==◌, true, false, if◌then◌else◌, List, [], ◌∷◌, ◌++◌, Option, Some, None, MatchBool, All}
+use Rattle.std.specs.Prelude.{◌≡◌, ◌≢◌, ℕ, ◌+◌, ◌-◌, ◌^◌, ◌<◌, ◌≤◌, ◌==◌, true, false, if◌then◌else◌, List, [], ◌∷◌, ◌++◌, Option, Some, None, MatchBool, All}
 use Rattle.atomic_table.specs.Table.{Step, Me, rest}
 use Rattle.std.specs.declared.snapshot.Snapshot.{Snapshot}
 use Rattle.vfm_types.specs.declared.desc.Desc.{Desc}
@@ -67,13 +67,13 @@ entering_at {T} {Z} state fits c me found after = MatchBool (found == 0)
 abbrev pub entering : {T Z : Type 0} → (T → Z) → (Desc → ℕ → T → Type 0) → Step (Option T) → Me (Option T) (View Z) → ℕ → Me (Option T) (View Z) → Type 0
 entering state fits st me found after = entering_at state fits (st.word - 1) me found after
 
--- A seat draws the stamp that is found, which is above those that it drew.
+-- A seat draws the stamp that is found, which is above those that it drew. A board has fewer than 2^39 stamps in all.
 abbrev pub drawing : {T Z : Type 0} → Entry → List (Touch Z) → Step (Option T) → Me (Option T) (View Z) → ℕ → Me (Option T) (View Z) → Type 0
-drawing entry ts st me found after = (after.1 ≡ me.1) × (after.0 ≡ view_drew found entry ts me.0) × All (λ r. r.stamp < found) me.0.records
+drawing entry ts st me found after = (after.1 ≡ me.1) × (after.0 ≡ view_drew found entry ts me.0) × All (λ r. r.stamp < found) me.0.records × (found < 2 ^ 39)
 
 -- A seat reads how many stamps are drawn, which is above those that it drew and no less than it read before.
 abbrev pub noting : {T Z : Type 0} → Step (Option T) → Me (Option T) (View Z) → ℕ → Me (Option T) (View Z) → Type 0
-noting st me found after = (after.1 ≡ me.1) × (after.0 ≡ view_noted found me.0) × All (λ r. r.stamp < found) me.0.records × All (λ n. n.answer ≤ found) me.0.notes
+noting st me found after = (after.1 ≡ me.1) × (after.0 ≡ view_noted found me.0) × All (λ r. r.stamp < found) me.0.records × All (λ n. n.answer ≤ found) me.0.notes × (found < 2 ^ 39)
 
 -- A seat leaves a cell, and its slot goes home.
 abbrev pub leaving_at : {T Z : Type 0} → ℕ → Me (Option T) (View Z) → Me (Option T) (View Z) → Type 0

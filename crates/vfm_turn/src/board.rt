@@ -136,7 +136,7 @@ impl<T: Kept + Drop> Board<T> {
     }
 
     /// Draws the next stamp for an entry that touches these held cells and no others, and answers it: counted from 0
-    /// over all seats, and above each stamp that this seat drew. The cells are in rising order. The ticket keeps the
+    /// over all seats, below 2^39, and above each stamp that this seat drew. The cells are in rising order. The ticket keeps the
     /// record: each cell's settled state is the one before, and its shown state is the one after, which is then settled.
     pub fn draw(&self, t: &mut Ticket<T>, e: Entry, cells: &[u32]) -> u64
         requires ticket { IsTicketOf self.now t.old }
@@ -147,6 +147,7 @@ impl<T: Kept + Drop> Board<T> {
         ensures ticket { IsTicketOf self.now t.new × (number_of t.new ≡ number_of t.old) }
         ensures seen { seen_of t.new ≡ drew (drawn_of t.old result e cells.now) (seen_of t.old) }
         ensures later { All (λ r. r.stamp < result) (records_of t.old) }
+        ensures bounded { result < 2 ^ 39 }
     {
         self.draw_as::<Brand>(t, e, cells)
     }
@@ -159,6 +160,7 @@ impl<T: Kept + Drop> Board<T> {
         ensures ticket { IsTicketOf self.now t.new × (number_of t.new ≡ number_of t.old) }
         ensures seen { seen_of t.new ≡ drew (drawn_of t.old result _e _cells.now) (seen_of t.old) }
         ensures later { All (λ r. r.stamp < result) (records_of t.old) }
+        ensures bounded { result < 2 ^ 39 }
     {
         self.table.shared.fetch_add::<Draw<J>>(&mut t.seat, 0, 1)
     }
@@ -171,6 +173,7 @@ impl<T: Kept + Drop> Board<T> {
         ensures seen { seen_of t.new ≡ noted result (seen_of t.old) }
         ensures later { All (λ r. r.stamp < result) (records_of t.old) }
         ensures no_less { All (λ n. n.answer ≤ result) (notes_of t.old) }
+        ensures bounded { result < 2 ^ 39 }
     {
         self.table.shared.load::<Now>(&mut t.seat, 0)
     }

@@ -1,0 +1,3 @@
+pub mod Own
+pub mod Deliveries
+pub mod Groups

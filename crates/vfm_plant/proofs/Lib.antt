@@ -1,0 +1,5 @@
+pub mod Holds
+pub mod Turns
+pub mod GroupHands
+pub mod Coordinators
+pub mod Seats

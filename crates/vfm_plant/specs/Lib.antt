@@ -1,0 +1,5 @@
+pub mod Hands
+pub mod Group
+pub mod Outcome
+pub mod Started
+pub mod Seat

@@ -1,0 +1,2 @@
+pub mod LogRuns
+pub mod KeptRuns
