@@ -5,7 +5,7 @@ use Rattle.vfm_status.specs.declared.status.Status.{Status}
 use Rattle.vfm_top.specs.Answers.{Promises}
 use Rattle.vfm_top.specs.Call.{call_of, outside}
 use Rattle.vfm_files.specs.Over.{Failures, call_over_files}
-use Rattle.vfm_files.proofs.run_over_files.Goals as goal
+use Rattle.vfm_files.proofs.over_files.run_over_files.Goals as goal
 
 -- a call before which nothing failed
 promised : (words : List (List ℕ)) (before now : WiresTell) (failures : Failures) (desc report out : ℕ) (answer : Status) → desc ≡ 0 → report ≡ 0
