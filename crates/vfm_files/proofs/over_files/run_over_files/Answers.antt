@@ -1,5 +1,5 @@
 -- How often reads and writes failed: none before the call.
-use Rattle.std.proofs.Common.{◌≡◌, ℕ, List, None, refl}
+use Rattle.std.proofs.Common.{◌≡◌, ℕ, List, None}
 use Rattle.vfm_outside.specs.Tells.{WiresTell, source_tells, sink_tells}
 use Rattle.vfm_status.specs.declared.status.Status.{Status}
 use Rattle.vfm_top.specs.Answers.{Promises}
