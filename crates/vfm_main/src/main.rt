@@ -1,25 +1,21 @@
-//! The program: files, standard output and the words of the command line, given to the top call.
+//! The program: its own texts, and the words of the command line given to the top call over files.
 #![tactic(auto)]
 
-ghost use Rattle.std.specs.Prelude.{◌≡◌, ◌⊎◌, ℕ, [], None, map, is_some, string_bytes, slice_index_or, IsTrue, IsFalse};
+ghost use Rattle.std.specs.Prelude.{◌≡◌, ◌⊎◌, [], None, Some, map, is_some, string_bytes, IsTrue, IsFalse};
 ghost use Rattle.vfm_status.specs.declared.status.Status.TheVariants.{Printed, WriteFault};
-ghost use Rattle.vfm_outside.specs.Tells.{sink_tells, WiresTell};
+ghost use Rattle.vfm_outside.specs.Tells.{sink_tells, wires_tell, WiresTell};
 ghost use Rattle.vfm_top.specs.Answers.{Ends, Promises};
-ghost use Rattle.vfm_main.specs.Own.{Failures, is_own, call_over_files};
+ghost use Rattle.vfm_files.specs.Over.{Failures, call_over_files};
+ghost use Rattle.vfm_main.specs.Own.{is_own};
 
-mod files;
-mod output;
-
-use crate::files::FileSource;
-use crate::output::OutSink;
-use std::alloc::{AllocError, Global};
+use std::alloc::Global;
 use std::process::ExitCode;
-use std::rt::{Env, Files};
+use std::rt::Files;
 use std::sync::Wait;
 use std::thread::Threads;
-use std::{env, io};
-use vfm_outside::{NoBeat, RingWires, Sink, write_all};
-use vfm_top::{Status, number, run};
+use vfm_files::{OutSink, given_words, run_over_files};
+use vfm_outside::{RingWires, Sink, write_all};
+use vfm_top::{Status, number};
 
 const HELP: &str = "\
 vfmig: migrates a described machine with its devices, and prints what happened
@@ -37,35 +33,6 @@ const VERSION: &str = "vfmig 0.1.0\n";
 
 /// How many pieces each link holds. Both ends run one after the other, so a channel with more of them fails at its source.
 const SLOTS: usize = 4_096;
-
-/// The words of the command line, without the program's name. Where one of them isn't UTF-8 they have no form, and no
-/// words are given.
-fn words<R: Env + Alloc<A = Global>>(rt: &R) -> Result<Vec<String>, AllocError> {
-    let mut words = Vec::new(rt.alloc());
-    match env::args(rt) {
-        Ok(args) => {
-            for word in args.skip(1) {
-                words.push(word)?;
-            }
-            Ok(words)
-        }
-        Err(error) => match error.kind() {
-            io::ErrorKind::InvalidData => Ok(words),
-            _ => Err(AllocError),
-        },
-    }
-}
-
-/// The word at a place, or nothing where there is none.
-fn word_at(words: &[String], at: usize) -> &str
-    ensures { result.now ≡ slice_index_or (map string_bytes words.now) at [] }
-{
-    if at < words.len() {
-        words[at].as_str()
-    } else {
-        ""
-    }
-}
 
 /// What the program says of itself, where the words ask for that alone.
 fn own_text(words: &[String]) -> Option<&'static str>
@@ -94,38 +61,25 @@ fn print_text<S: Sink>(text: &str, out: &mut S) -> Status
     }
 }
 
-/// Does what the words ask for, with files and standard output. All but the program's own words go to the top call.
-/// Its files and its output show no bytes, and how many reads and writes failed is seen by nobody but the call. The first
-/// file is the description's, the second the report's. The two ends of a move meet over rings in memory.
+/// Does what the words ask for, with files and standard output. All but the program's own words go to the top call, over
+/// rings in memory that nobody has asked for links before.
 fn answer<H: Threads + Wait + Sync + Files + Print + Alloc<A = Global>>(
     rt: &H,
     words: &[String],
 ) -> Status
     ensures own { IsTrue (is_own (map string_bytes words.now)) → (result ≡ Printed) ⊎ (result ≡ WriteFault) }
-    ensures handed { IsFalse (is_own (map string_bytes words.now)) → (before now : WiresTell) × (failures : Failures)
-        × Promises (call_over_files (map string_bytes words.now) before now failures result) }
+    ensures handed { IsFalse (is_own (map string_bytes words.now)) → (now : WiresTell) × (failures : Failures)
+        × Promises (call_over_files (map string_bytes words.now) (wires_tell (Some []) None 0) now failures result) }
 {
-    let mut out = OutSink::of(rt);
     if let Some(text) = own_text(words) {
-        return print_text(text, &mut out);
+        return print_text(text, &mut OutSink::of(rt));
     }
-    let mut desc = FileSource::of(rt, word_at(words, 1));
-    let mut report = FileSource::of(rt, word_at(words, 2));
     let mut wires = RingWires::of(rt.alloc(), SLOTS, 0, Vec::new(rt.alloc()));
-    run(
-        rt,
-        rt.alloc(),
-        words,
-        &mut desc,
-        &mut report,
-        &mut wires,
-        &mut out,
-        &NoBeat,
-    )
+    run_over_files(rt, words, &mut wires)
 }
 
 fn main(rt: HostRuntime) -> ExitCode {
-    let status = match words(&rt) {
+    let status = match given_words(&rt) {
         Ok(words) => answer(&rt, words.as_slice()),
         Err(_) => Status::NoMemory,
     };
