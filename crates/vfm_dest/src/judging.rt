@@ -4,8 +4,9 @@ ghost use Rattle.std.specs.Prelude.{◌≡◌, ◌+◌, ◌≤◌, ℕ, List, []
 ghost use Rattle.vfm_types.specs.Desc.{device_count};
 ghost use Rattle.vfm_packet.specs.declared.answer.Expect.{Expect};
 ghost use Rattle.vfm_streams.specs.Verdict.{Expects, verdict};
-ghost use Rattle.vfm_mesh.specs.Meshes.{AreMesh, taken_at};
-ghost use Rattle.vfm_intake.specs.Intakes.{IsIntakeOf, HasTaken};
+ghost use Rattle.vfm_mesh.specs.Meshes.{AreMesh};
+ghost use Rattle.vfm_intake.specs.Intakes.{IsIntakeOf};
+ghost use Rattle.vfm_dest.specs.Drained.{HasLoaded};
 ghost use Rattle.vfm_dest.specs.Heards.{Told, channels_of, AreRead, WereRead};
 ghost use Rattle.vfm_dest.specs.Stages.{AllTold, IsFirstFault, IsStagedFrom, StagesBy};
 ghost use Rattle.vfm_dest.specs.declared.judging.StageFault.TheVariants as faults;
@@ -50,8 +51,8 @@ fn first_fault(ends: &[ChannelEnd]) -> Option<StageFault>
     None
 }
 
-/// Judges what came of all channels, once they were read: the fans have got what came, and nothing was taken from the funnels
-/// yet. The intake is one to which nothing came.
+/// Judges what came of all channels, once they were read: the fans have got what came, and what was taken from the funnels
+/// came to the intake. What is left is loaded first.
 pub fn judge(
     alloc: Global,
     desc: &Desc,
@@ -61,10 +62,9 @@ pub fn judge(
     mut intake: Intake,
 ) -> Result<Staged, StageFault>
     requires made { IsIntakeOf intake desc.now }
-    requires nothing { HasTaken intake desc.now (λ s. []) }
+    requires loaded { HasLoaded desc.now funnels.items intake }
     requires mesh { AreMesh fans.items funnels.items }
     requires funnels { length funnels.items ≡ device_count desc.now + 1 }
-    requires untaken { (k s : ℕ) → taken_at funnels.items k s ≡ [] }
     requires ends { length ends.now ≡ length fans.items }
     requires few { length fans.items ≤ 4294967295 }
     requires read { WereRead desc.now fans.items ends.now }
