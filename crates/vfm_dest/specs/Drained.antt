@@ -8,18 +8,19 @@ use Rattle.vfm_mesh.specs.declared.rest.Rest.{Rest}
 use Rattle.vfm_mesh.specs.Meshes.{channels_left, left, taken_at}
 use Rattle.vfm_intake_laws.specs.Arrivals.{of_channel}
 use Rattle.vfm_intake.specs.declared.intake.Intake.{Intake}
-use Rattle.vfm_intake.specs.Intakes.{HasTaken}
+use Rattle.vfm_intake.specs.declared.stream.StreamIntake.{StreamIntake}
+use Rattle.vfm_intake.specs.Intakes.{StandAfter, HasTaken}
 use Rattle.vfm_stream_work.specs.Parcels.{packets_in, untagged}
 
 -- more of stream s
 abbrev pub with_more : {X : Type 0} → (ℕ → List X) → ℕ → List X → ℕ → List X
 with_more came s more t = if t == s then came t ++ more else came t
 
--- What was taken out of the funnels of a mesh came to the intake, and nothing else: of each stream these packets, those of
--- each channel in its order.
-pub record HasLoaded (D : Desc) (funnels : List Funnel) (intake : Intake) : Type 0 where
+-- What was taken out of the funnels of a mesh came to the intakes of the streams, and nothing else: of each stream these
+-- packets, those of each channel in its order.
+pub record HasLoaded (D : Desc) (funnels : List Funnel) (intakes : List StreamIntake) : Type 0 where
   pub tagged : ℕ → List (ℕ × Packet)
-  pub came : HasTaken intake D (λ s. untagged (tagged s))
+  pub came : StandAfter D (λ s. untagged (tagged s)) intakes
   pub each : (k s : ℕ) → s ≤ device_count D → of_channel k (tagged s) ≡ packets_in (taken_at funnels k s)
 
 -- the packets are all that was left of stream s in the mesh, those of each channel in its order

@@ -1,21 +1,22 @@
 //! What is answered once all channels were read.
 
-ghost use Rattle.std.specs.Prelude.{◌≡◌, ◌+◌, ◌≤◌, ℕ, List, [], length, IfSome, IfNone, IfOk, IfErr};
+ghost use Rattle.std.specs.Prelude.{◌≡◌, ◌+◌, ◌≤◌, ℕ, List, [], false, length, IfSome, IfNone, IfOk, IfErr};
 ghost use Rattle.vfm_types.specs.Desc.{device_count};
 ghost use Rattle.vfm_packet.specs.declared.answer.Expect.{Expect};
 ghost use Rattle.vfm_streams.specs.Verdict.{Expects, verdict};
 ghost use Rattle.vfm_mesh.specs.Meshes.{AreMesh};
-ghost use Rattle.vfm_intake.specs.Intakes.{IsIntakeOf};
+ghost use Rattle.vfm_types.specs.Valid.{IsValid};
+ghost use Rattle.vfm_intake.specs.Intakes.{AreStreamsOf};
 ghost use Rattle.vfm_dest.specs.Drained.{HasLoaded};
 ghost use Rattle.vfm_dest.specs.Heards.{Told, channels_of, AreRead, WereRead};
 ghost use Rattle.vfm_dest.specs.Stages.{AllTold, IsFirstFault, IsStagedFrom, StagesBy};
 ghost use Rattle.vfm_dest.specs.declared.judging.StageFault.TheVariants as faults;
 ghost use Rattle.vfm_intake.specs.Parts.{AreParts};
 
-use crate::{Staged, drain};
+use crate::{AllTaken, Staged, drain};
 use std::alloc::Global;
 use vfm_intake::{Intake, verdict_of};
-use vfm_mesh::{Fan, Funnel, settle};
+use vfm_mesh::{Fan, settle};
 use vfm_plain::Part;
 use vfm_recv::ChannelEnd;
 use vfm_types::{Desc, Refusal};
@@ -51,20 +52,21 @@ fn first_fault(ends: &[ChannelEnd]) -> Option<StageFault>
     None
 }
 
-/// Judges what came of all channels, once they were read: the fans have got what came, and what was taken from the funnels
-/// came to the intake. What is left is loaded first.
+/// Judges what came of all channels, once they were read: the fans have got what came, and what the workers of the streams
+/// took came to their intakes. What is left is loaded first.
 pub fn judge(
     alloc: Global,
     desc: &Desc,
     ends: &[ChannelEnd],
     fans: Vec<Fan>,
-    funnels: Vec<Funnel>,
-    mut intake: Intake,
+    taken: AllTaken,
 ) -> Result<Staged, StageFault>
-    requires made { IsIntakeOf intake desc.now }
-    requires loaded { HasLoaded desc.now funnels.items intake }
-    requires mesh { AreMesh fans.items funnels.items }
-    requires funnels { length funnels.items ≡ device_count desc.now + 1 }
+    requires valid { IsValid desc.now }
+    requires intakes { AreStreamsOf desc.now taken.intakes.items }
+    requires streams { length taken.intakes.items ≡ device_count desc.now + 1 }
+    requires loaded { taken.is_short ≡ false → HasLoaded desc.now taken.funnels.items taken.intakes.items }
+    requires mesh { AreMesh fans.items taken.funnels.items }
+    requires funnels { length taken.funnels.items ≡ device_count desc.now + 1 }
     requires ends { length ends.now ≡ length fans.items }
     requires few { length fans.items ≤ 4294967295 }
     requires read { WereRead desc.now fans.items ends.now }
@@ -75,6 +77,17 @@ pub fn judge(
     if let Some(fault) = first_fault(ends) {
         return Err(fault);
     }
+    let AllTaken {
+        funnels,
+        intakes,
+        is_short,
+    } = taken;
+    if is_short {
+        return Err(StageFault::NoMemory);
+    }
+    let Ok(mut intake) = Intake::of_streams(alloc, desc, intakes) else {
+        return Err(StageFault::NoMemory);
+    };
     let mut rest = settle(fans, funnels);
     if drain(desc, &mut rest, &mut intake).is_err() {
         return Err(StageFault::NoMemory);
