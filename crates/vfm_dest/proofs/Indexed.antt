@@ -73,21 +73,25 @@ pub record One {X Y : Type 0} (R : ℕ → X → X → Y → Type 0) (k : ℕ) (
   pub value : Y
   pub is : R k x now value
 
-pub chosen : {X Y : Type 0} (R : ℕ → X → X → Y → Type 0) (xs now : List X) → length now ≡ length xs
-    → ((k : ℕ) (d : X) → k < length xs → One R k (slice_index_or xs k d) (slice_index_or now k d)) → Chosen R xs now
-chosen R [] now same each = record { values = []; count = refl; each = λ k d e low. absurd (omega (arith, low)) }
-chosen R (x ∷ xs) [] same each = absurd (omega (arith, same))
-chosen {X} {Y} R (x ∷ xs) (y ∷ now) same each = record { values = one.value ∷ rest.values; count = ap suc rest.count; each = both }
+-- one place more at the start
+chosen-first : {X Y : Type 0} (R : ℕ → X → X → Y → Type 0) (x y : X) (xs now : List X) → One R 0 x y → Chosen (λ k. R (suc k)) xs now
+    → Chosen R (x ∷ xs) (y ∷ now)
+chosen-first {X} {Y} R x y xs now one rest = record { values = one.value ∷ rest.values; count = ap suc rest.count; each = both }
   where
-    one : One R 0 x y
-    one = each 0 x (omega arith)
-
-    rest : Chosen (λ k. R (suc k)) xs now
-    rest = chosen (λ k. R (suc k)) xs now (omega (arith, same)) (λ k d low.
-        let next : One R (suc k) (slice_index_or xs k d) (slice_index_or now k d) = each (suc k) d (omega (arith, low)) in
-        record { value = next.value; is = next.is })
-
     both : (k : ℕ) (d : X) (e : Y) → k < length (x ∷ xs)
         → R k (slice_index_or (x ∷ xs) k d) (slice_index_or (y ∷ now) k d) (slice_index_or (one.value ∷ rest.values) k e)
     both zero d e low = one.is
     both (suc k) d e low = rest.each k d e (omega (arith, low))
+
+-- what there is of the places behind the first
+one-next : {X Y : Type 0} (R : ℕ → X → X → Y → Type 0) (k : ℕ) (x now : X) → One R (suc k) x now → One (λ j. R (suc j)) k x now
+one-next R k x now one = record { value = one.value; is = one.is }
+
+pub chosen : {X Y : Type 0} (R : ℕ → X → X → Y → Type 0) (xs now : List X) → length now ≡ length xs
+    → ((k : ℕ) (d : X) → k < length xs → One R k (slice_index_or xs k d) (slice_index_or now k d)) → Chosen R xs now
+chosen R [] now same each = record { values = []; count = refl; each = λ k d e low. absurd (omega (arith, low)) }
+chosen R (x ∷ xs) [] same each = absurd (omega (arith, same))
+chosen R (x ∷ xs) (y ∷ now) same each =
+    chosen-first R x y xs now (each 0 x (omega arith))
+    (chosen (λ k. R (suc k)) xs now (omega (arith, same))
+    (λ k d low. one-next R k (slice_index_or xs k d) (slice_index_or now k d) (each (suc k) d (omega (arith, low)))))

@@ -88,39 +88,44 @@ module _ (D : Desc) (workers : List StreamWorker) (hired : AreHired D workers) w
         subst (λ (l : List (List RingId)). AreJoined (map fan_rings fans_now) l) (sym rings-same)
         (subst (λ (l : List (List RingId)). AreJoined l (map funnel_rings (map funnel_of workers))) (sym rings) mesh)
 
-    -- what they took came
-    pub has-loaded : All (λ w. is_short w ≡ false) now → HasLoaded D (map funnel_of now) (map intake_of now)
-    has-loaded sound = record {
-      tagged = λ s. slice_index_or all.values s [];
-      came =
-          each-read intake_of (λ s x. StandsAfter x D s (untagged (slice_index_or all.values s []))) now
-          (λ s d low. (all.each s d [] (omega (arith, low, same))).0);
-      each = λ k s low.
-          each-read all_taken (λ t row. of_channel k (slice_index_or all.values t []) ≡ packets_in (slice_index_or row k [])) (map funnel_of now)
-          (each-read funnel_of (λ t f. of_channel k (slice_index_or all.values t []) ≡ packets_in (taken f k)) now
-          (λ t d inside. (all.each t d [] (omega (arith, inside, same))).1 k))
-          s [] (omega (arith, low, length-map (map funnel_of now) all_taken, funnels-many));
-    }
-      where
-        abbrev Took : ℕ → StreamWorker → StreamWorker → List (ℕ × Packet) → Type 0
-        Took s before after tagged =
-            StandsAfter (intake_of after) D s (untagged tagged) × ((k : ℕ) → of_channel k tagged ≡ packets_in (taken (funnel_of after) k))
+    -- what one took: its packets, those of each channel in its order, came to the intake
+    abbrev Took : ℕ → StreamWorker → StreamWorker → List (ℕ × Packet) → Type 0
+    Took s before after tagged =
+        StandsAfter (intake_of after) D s (untagged tagged) × ((k : ℕ) → of_channel k tagged ≡ packets_in (taken (funnel_of after) k))
 
-        took : (s : ℕ) (d : StreamWorker) → s < length workers → One Took s (slice_index_or workers s d) (slice_index_or now s d)
-        took s d low =
-            let passes : Passes D (slice_index_or workers s d) (slice_index_or now s d) =
-            (worked s d low).passes (sound s d (omega (arith, low, same))) (hired.short s d low) in
-            record {
-              value = passes.tagged;
-              is = (
-                subst (λ (n : ℕ). StandsAfter (intake_of (slice_index_or now s d)) D n (untagged passes.tagged)) (number-at s d low)
-                    (passes.come []
-                    (subst (λ (n : ℕ). StandsAfter (intake_of (slice_index_or workers s d)) D n []) (sym (number-at s d low)) (stood-at s d low))),
-                λ k.
-                    ap (λ (l : List Parcel). packets_in l ++ of_channel k passes.tagged) (sym (untaken-at k s d low))
-                    ∙ sym (passes.each k),
-              );
-            }
+    module _ (sound : All (λ w. is_short w ≡ false) now) where
+      took : (s : ℕ) (d : StreamWorker) → s < length workers → One Took s (slice_index_or workers s d) (slice_index_or now s d)
+      took s d low =
+          let passes : Passes D (slice_index_or workers s d) (slice_index_or now s d) =
+          (worked s d low).passes (sound s d (omega (arith, low, same))) (hired.short s d low) in
+          record {
+            value = passes.tagged;
+            is = (
+              subst (λ (n : ℕ). StandsAfter (intake_of (slice_index_or now s d)) D n (untagged passes.tagged)) (number-at s d low)
+                  (passes.come []
+                  (subst (λ (n : ℕ). StandsAfter (intake_of (slice_index_or workers s d)) D n []) (sym (number-at s d low)) (stood-at s d low))),
+              λ k.
+                  ap (λ (l : List Parcel). packets_in l ++ of_channel k passes.tagged) (sym (untaken-at k s d low))
+                  ∙ sym (passes.each k),
+            );
+          }
 
-        all : Chosen Took workers now
-        all = chosen Took workers now same took
+      all : Chosen Took workers now
+      all = chosen Took workers now same took
+
+      -- what they took came
+      pub has-loaded : HasLoaded D (map funnel_of now) (map intake_of now)
+      has-loaded =
+          let values = all.values in
+          let each = all.each in
+          record {
+            tagged = λ s. slice_index_or values s [];
+            came =
+                each-read intake_of (λ s x. StandsAfter x D s (untagged (slice_index_or values s []))) now
+                (λ s d low. (each s d [] (omega (arith, low, same))).0);
+            each = λ k s low.
+                each-read all_taken (λ t row. of_channel k (slice_index_or values t []) ≡ packets_in (slice_index_or row k [])) (map funnel_of now)
+                (each-read funnel_of (λ t f. of_channel k (slice_index_or values t []) ≡ packets_in (taken f k)) now
+                (λ t d inside. (each t d [] (omega (arith, inside, same))).1 k))
+                s [] (omega (arith, low, length-map (map funnel_of now) all_taken, funnels-many));
+          }

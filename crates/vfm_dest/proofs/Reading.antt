@@ -9,7 +9,7 @@ use Rattle.vfm_mesh.specs.Feeds.{RingId, feed_ring}
 use Rattle.vfm_mesh.specs.Rows.{all_given, fan_rings, given}
 use Rattle.vfm_mesh.specs.Meshes.{given_at}
 use Rattle.vfm_recv.specs.declared.channel_end.ChannelEnd.TheVariants as channel_ends
-use Rattle.vfm_dest.specs.Heards.{Told, untold, OutWords, SendAsBefore, HaveStreams, Channel, channel_at, channels_of, IsRead, WasRead, AreRead}
+use Rattle.vfm_dest.specs.Heards.{Told, untold, OutWords, SendAsBefore, HaveStreams, Channels, channel_at, channel_of, channels_of, IsRead, WasRead, AreRead}
 use Rattle.vfm_dest.specs.declared.channel_worker.ChannelWorker.{ChannelWorker}
 use Rattle.vfm_dest.specs.ChannelWorkers.{link_in, fan_in, end_in, expect_in, IsFresh, HasHeard}
 use Rattle.vfm_dest.proofs.Indexed.{read-twice, same-read}
@@ -36,37 +36,42 @@ module _ {L : Type 0} where
     HaveHeard workers now =
         (k : ℕ) (d : ChannelWorker L) → k < length workers → HasHeard tell words (slice_index_or workers k d) (slice_index_or now k d)
 
-    -- the channels were read
-    pub have-read : (e : Expect) (workers now : List (ChannelWorker L)) → length now ≡ length workers → HaveHeard workers now
-        → All (λ w. expect_in w ≡ e) workers
-        → AreRead e (map tell (map link_in workers)) (channels_of (map tell (map link_in now)) (map fan_in now) (map end_in now))
-    have-read e [] [] same heard expects = record { came = []; count = refl; links = refl; answers = refl; each = λ k low. absurd (omega (arith, low)) }
-    have-read e [] (y ∷ now) same heard expects = absurd (omega (arith, same))
-    have-read e (x ∷ workers) [] same heard expects = absurd (omega (arith, same))
-    have-read e (x ∷ workers) (y ∷ now) same heard expects = record {
+    -- what is known of the channels of workers
+    abbrev channels-in : List (ChannelWorker L) → Channels
+    channels-in now = channels_of (map tell (map link_in now)) (map fan_in now) (map end_in now)
+
+    abbrev told-in : List (ChannelWorker L) → List Told
+    told-in workers = map tell (map link_in workers)
+
+    -- one channel more at the start
+    read-first : (e : Expect) (x y : ChannelWorker L) (workers now : List (ChannelWorker L))
+        → WasRead e (tell (link_in x)) (channel_of (tell (link_in y)) (given y.fan) y.end) → AreRead e (told-in workers) (channels-in now)
+        → AreRead e (told-in (x ∷ workers)) (channels-in (y ∷ now))
+    read-first e x y workers now one rest = record {
       came = one.came ∷ rest.came;
       count = ap suc rest.count;
       links = ap suc rest.links;
       answers = ap suc rest.answers;
-      each = each;
+      each = both;
     }
       where
-        one : WasRead e (tell (link_in x)) (record { now = tell (link_in y); given = given y.fan; answer = y.end })
-        one =
-            subst (λ (z : Expect). WasRead z (tell (link_in x)) (record { now = tell (link_in y); given = given y.fan; answer = y.end }))
-            (expects 0 x (omega arith)) (heard 0 x (omega arith)).read
+        both : (k : ℕ) → k < length (told-in (x ∷ workers))
+            → IsRead e (slice_index_or (told-in (x ∷ workers)) k untold) (channel_at (channels-in (y ∷ now)) k) (slice_index_or (one.came ∷ rest.came) k [])
+        both zero low = one.is
+        both (suc k) low = rest.each k (omega (arith, low))
 
-        rest : AreRead e (map tell (map link_in workers)) (channels_of (map tell (map link_in now)) (map fan_in now) (map end_in now))
-        rest =
-            have-read e workers now (omega (arith, same)) (λ k d low. heard (suc k) d (omega (arith, low)))
-            (λ k d low. expects (suc k) d (omega (arith, low)))
-
-        each : (k : ℕ) → k < length (map tell (map link_in (x ∷ workers)))
-            → IsRead e (slice_index_or (map tell (map link_in (x ∷ workers))) k untold)
-            (channel_at (channels_of (map tell (map link_in (y ∷ now))) (map fan_in (y ∷ now)) (map end_in (y ∷ now))) k)
-            (slice_index_or (one.came ∷ rest.came) k [])
-        each zero low = one.is
-        each (suc k) low = rest.each k (omega (arith, low))
+    -- the channels were read
+    pub have-read : (e : Expect) (workers now : List (ChannelWorker L)) → length now ≡ length workers → HaveHeard workers now
+        → All (λ w. expect_in w ≡ e) workers → AreRead e (told-in workers) (channels-in now)
+    have-read e [] [] same heard expects = record { came = []; count = refl; links = refl; answers = refl; each = λ k low. absurd (omega (arith, low)) }
+    have-read e [] (y ∷ now) same heard expects = absurd (omega (arith, same))
+    have-read e (x ∷ workers) [] same heard expects = absurd (omega (arith, same))
+    have-read e (x ∷ workers) (y ∷ now) same heard expects =
+        read-first e x y workers now
+        (subst (λ (z : Expect). WasRead z (tell (link_in x)) (channel_of (tell (link_in y)) (given y.fan) y.end)) (expects 0 x (omega arith))
+        (heard 0 x (omega arith)).read)
+        (have-read e workers now (omega (arith, same)) (λ k d low. heard (suc k) d (omega (arith, low)))
+        (λ k d low. expects (suc k) d (omega (arith, low))))
 
     -- over the same rings
     pub fan-rings : (workers now : List (ChannelWorker L)) → length now ≡ length workers → HaveHeard workers now

@@ -91,7 +91,7 @@ module _ (D : Desc) (e : Expect) (before links : List Told) (fans : List Fan) (f
     (are : AreRead e before (channels_of links fans ends)) (told : AllTold ends)
     (mesh : AreMesh fans funnels) (streams : length funnels ≡ device_count D + 1) (channels : channels_left rest ≡ length fans)
     (lefts : (k s : ℕ) → k < length fans → s < length funnels → taken_at funnels k s ++ left rest k s ≡ given_at fans k s)
-    (loaded : HasLoaded D funnels loaded_to) (drained : HasDrained D rest loaded_to intake) where
+    (loaded : HasLoaded D funnels loaded_to.streams.items) (drained : HasDrained D rest loaded_to intake) where
   says : (k : ℕ) → k < length fans
       → (slice_index_or ends k channel_ends.Ended ≡ end_of (reading e (slice_index_or are.came k [])).refusal)
       × ((s : ℕ) → s < e.streams → packets_in (given_at fans k s) ≡ stream_packets s (reading e (slice_index_or are.came k [])).packets)

@@ -6,7 +6,7 @@ ghost use Rattle.vfm_packet.specs.declared.answer.Expect.{Expect};
 ghost use Rattle.vfm_streams.specs.Verdict.{Expects, verdict};
 ghost use Rattle.vfm_mesh.specs.Meshes.{AreMesh};
 ghost use Rattle.vfm_types.specs.Valid.{IsValid};
-ghost use Rattle.vfm_intake.specs.Intakes.{AreStreamsOf};
+ghost use Rattle.vfm_intake.specs.Intakes.{streams_in, AreStreamsOf, IsIntakeOf};
 ghost use Rattle.vfm_dest.specs.Drained.{HasLoaded};
 ghost use Rattle.vfm_dest.specs.Heards.{Told, channels_of, AreRead, WereRead};
 ghost use Rattle.vfm_dest.specs.Stages.{AllTold, IsFirstFault, IsStagedFrom, StagesBy};
@@ -16,10 +16,10 @@ ghost use Rattle.vfm_intake.specs.Parts.{AreParts};
 use crate::{AllTaken, Staged, drain};
 use std::alloc::Global;
 use vfm_intake::{Intake, verdict_of};
-use vfm_mesh::{Fan, settle};
+use vfm_mesh::{Fan, Funnel, settle};
 use vfm_plain::Part;
 use vfm_recv::ChannelEnd;
-use vfm_types::{Desc, Refusal};
+use vfm_types::{Desc, NoMemory, Refusal};
 
 /// Why nothing was staged.
 #[derive(Clone, Copy, Debug, PartialEq, Eq)]
@@ -85,9 +85,33 @@ pub fn judge(
     if is_short {
         return Err(StageFault::NoMemory);
     }
-    let Ok(mut intake) = Intake::of_streams(alloc, desc, intakes) else {
-        return Err(StageFault::NoMemory);
-    };
+    match Intake::of_streams(alloc, desc, intakes) {
+        Ok(intake) => judge_rest(alloc, desc, ends, fans, funnels, intake),
+        Err(NoMemory) => Err(StageFault::NoMemory),
+    }
+}
+
+// Loads what is left in a mesh, and judges what came of all channels, of which none is a fault.
+fn judge_rest(
+    alloc: Global,
+    desc: &Desc,
+    ends: &[ChannelEnd],
+    fans: Vec<Fan>,
+    funnels: Vec<Funnel>,
+    mut intake: Intake,
+) -> Result<Staged, StageFault>
+    requires made { IsIntakeOf intake desc.now }
+    requires loaded { HasLoaded desc.now funnels.items (streams_in intake) }
+    requires mesh { AreMesh fans.items funnels.items }
+    requires funnels { length funnels.items ≡ device_count desc.now + 1 }
+    requires ends { length ends.now ≡ length fans.items }
+    requires few { length fans.items ≤ 4294967295 }
+    requires told { AllTold ends.now }
+    requires read { WereRead desc.now fans.items ends.now }
+    ensures { (e : Expect) (before links : List Told) → Expects desc.now e → length before ≡ length fans.items
+        → (are : AreRead e before (channels_of links fans.items ends.now))
+        → StagesBy desc.now ends.now (verdict desc.now e are.came) result }
+{
     let mut rest = settle(fans, funnels);
     if drain(desc, &mut rest, &mut intake).is_err() {
         return Err(StageFault::NoMemory);

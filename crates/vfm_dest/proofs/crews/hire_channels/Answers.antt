@@ -1,4 +1,4 @@
-use Rattle.std.proofs.Common.{rules, ◌≡◌, ◌∙◌, sym, ◌∷◌, [], ◌++◌, length, arith, append_assoc}
+use Rattle.std.proofs.Common.{rules, ◌≡◌, ◌∙◌, sym, ◌+◌, ◌∷◌, [], ◌++◌, length, arith, append_assoc}
 use Rattle.std.proofs.lemmas.List.{length-append}
 use Rattle.vfm_dest.specs.ChannelWorkers.{link_in, fan_in, expect_in}
 use Rattle.vfm_dest.proofs.Indexed.{read-more, read-next, all-more}

@@ -1,4 +1,4 @@
-use Rattle.std.proofs.Common.{rules, ◌≡◌, ◌∙◌, sym, false, ◌∷◌, [], ◌++◌, length, arith, append_assoc}
+use Rattle.std.proofs.Common.{rules, ◌≡◌, ◌∙◌, sym, false, ◌+◌, ◌∷◌, [], ◌++◌, length, arith, append_assoc}
 use Rattle.std.proofs.lemmas.List.{length-append}
 use Rattle.vfm_stream_work.specs.Workers.{funnel_of, intake_of, is_short}
 use Rattle.vfm_dest.proofs.Indexed.{read-more, read-next, all-more}
