@@ -1,6 +1,5 @@
 -- Lists and what is read of each of their elements.
-use Rattle.std.proofs.Common.{◌≡◌, ◌∙◌, refl, sym, ap, ap₂, subst, ℕ, zero, suc, ◌<◌, List, [], ◌∷◌, ◌++◌, length, map, slice_index_or, arith, append_assoc}
-use Rattle.std.proofs.lemmas.List.{get_or-map, length-map}
+use Rattle.std.proofs.Common.{◌≡◌, ◌∙◌, refl, sym, ap, ap₂, subst, ℕ, zero, suc, ◌<◌, List, [], ◌∷◌, ◌++◌, length, map, take, drop, slice_index_or, arith, append_assoc}
 use Rattle.std.specs.Prelude.{All}
 use Rattle.vfm_intake.proofs.Elements.{each-more}
 use Rattle.vfm_dest.proofs.Hearing.{map-more}
@@ -95,3 +94,13 @@ chosen R (x ∷ xs) (y ∷ now) same each =
     chosen-first R x y xs now (each 0 x (omega arith))
     (chosen (λ k. R (suc k)) xs now (omega (arith, same))
     (λ k d low. one-next R k (slice_index_or xs k d) (slice_index_or now k d) (each (suc k) d (omega (arith, low)))))
+
+-- ---- what was lent of a vector comes back
+
+pub whole-again : {X : Type 0} (n : ℕ) (now old : List X) → length now ≡ n → length old ≡ n → take n (now ++ drop (length now) old) ≡ now
+whole-again zero [] old same count = refl
+whole-again zero (x ∷ now) old same count = absurd (omega (arith, same))
+whole-again (suc n) [] old same count = absurd (omega (arith, same))
+whole-again (suc n) (x ∷ now) [] same count = absurd (omega (arith, count))
+whole-again (suc n) (x ∷ now) (y ∷ old) same count =
+    ap (λ (l : List _). x ∷ l) (whole-again n now old (omega (arith, same)) (omega (arith, count)))

@@ -12,3 +12,4 @@ pub mod Sending
 pub mod Indexed
 pub mod Loading
 pub mod Reading
+pub mod Together

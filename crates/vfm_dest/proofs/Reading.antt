@@ -8,7 +8,6 @@ use Rattle.vfm_mesh.specs.declared.fan.Fan.{Fan}
 use Rattle.vfm_mesh.specs.Feeds.{RingId, feed_ring}
 use Rattle.vfm_mesh.specs.Rows.{all_given, fan_rings, given}
 use Rattle.vfm_mesh.specs.Meshes.{given_at}
-use Rattle.vfm_recv.specs.declared.channel_end.ChannelEnd.TheVariants as channel_ends
 use Rattle.vfm_dest.specs.Heards.{Told, untold, OutWords, SendAsBefore, HaveStreams, Channels, channel_at, channel_of, channels_of, IsRead, WasRead, AreRead}
 use Rattle.vfm_dest.specs.declared.channel_worker.ChannelWorker.{ChannelWorker}
 use Rattle.vfm_dest.specs.ChannelWorkers.{link_in, fan_in, end_in, expect_in, IsFresh, HasHeard}

@@ -1,6 +1,6 @@
 //! All workers beside one another.
 
-ghost use Rattle.std.specs.Prelude.{◌<◌, ℕ, length, slice_index_or, All};
+ghost use Rattle.std.specs.Prelude.{◌≡◌, ◌<◌, ℕ, length, slice_index_or, All};
 ghost use denote.Param.Send.{IsSync, IsSend};
 ghost use Rattle.vfm_intake.specs.Streams.{stream_in, IsStreamOf};
 ghost use Rattle.vfm_stream_work.specs.declared.worker.StreamWorker.{StreamWorker};
@@ -60,8 +60,8 @@ fn load_all<H: Threads + Sync, B: Beat + Sync>(
     );
 }
 
-/// The workers of all channels and of all streams beside one another, each in a thread of its own where one can be made.
-pub fn work_all<H: Threads + Sync, L: Link, B: Beat + Sync>(
+// The workers of all channels and of all streams beside one another.
+fn work_slices<H: Threads + Sync, L: Link, B: Beat + Sync>(
     rt: &H,
     desc: &Desc,
     beat: &B,
@@ -84,5 +84,32 @@ pub fn work_all<H: Threads + Sync, L: Link, B: Beat + Sync>(
         &mut ||
             requires { IsSync H.row × IsSync B.row × All (λ w. IsStreamOf (intake_of w) desc.now (stream_in (intake_of w))) streams.now }
         { load_all(rt, desc, beat, streams) },
+    );
+}
+
+/// The workers of all channels and of all streams beside one another, each in a thread of its own where one can be made.
+pub fn work_all<H: Threads + Sync, L: Link, B: Beat + Sync>(
+    rt: &H,
+    desc: &Desc,
+    beat: &B,
+    channels: &mut Vec<ChannelWorker<L>>,
+    streams: &mut Vec<StreamWorker>,
+)
+    requires fresh { All (λ w. IsFresh w) channels.old.items }
+    requires made { All (λ w. IsStreamOf (intake_of w) desc.now (stream_in (intake_of w))) streams.old.items }
+    ensures channels { length channels.new.items ≡ length channels.old.items }
+    ensures streams { length streams.new.items ≡ length streams.old.items }
+    ensures heard { (k : ℕ) (d : ChannelWorker L) → k < length channels.old.items
+        → HasHeard (told L.received L.ended L.failed_in) (out_words L.sent L.finished L.failed_out)
+        (slice_index_or channels.old.items k d) (slice_index_or channels.new.items k d) }
+    ensures worked { (s : ℕ) (d : StreamWorker) → s < length streams.old.items
+        → HasWorked desc.now (slice_index_or streams.old.items s d) (slice_index_or streams.new.items s d) }
+{
+    work_slices(
+        rt,
+        desc,
+        beat,
+        channels.as_mut_slice(),
+        streams.as_mut_slice(),
     );
 }

@@ -128,13 +128,7 @@ fn stage_ready<H: Threads + Sync, L: Link, B: Beat + Sync>(
         taken,
     } = ready;
     let mut channels = hire_channels(alloc, expected_of(desc), links, fans, channels);
-    work_all(
-        rt,
-        desc,
-        beat,
-        channels.as_mut_slice(),
-        streams.as_mut_slice(),
-    );
+    work_all(rt, desc, beat, &mut channels, &mut streams);
     let AllHeard { links, ends, fans } = dismiss_channels(channels, heard);
     let taken = dismiss_streams(streams, taken);
     let answer = judge(alloc, desc, ends.as_slice(), fans, taken);

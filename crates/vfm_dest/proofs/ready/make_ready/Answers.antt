@@ -1,8 +1,5 @@
-use Rattle.std.proofs.Common.{rules, ◌≡◌, ◌∙◌, sym, subst, ◌+◌, List, length, map}
-use Rattle.vfm_types.specs.Desc.{device_count}
-use Rattle.vfm_mesh.specs.declared.funnel.Funnel.{Funnel}
+use Rattle.std.proofs.Common.{rules, sym, subst, []}
 use Rattle.vfm_mesh.specs.Meshes.{AreMesh}
-use Rattle.vfm_intake.specs.declared.stream.StreamIntake.{StreamIntake}
 use Rattle.vfm_intake.specs.Intakes.{AreStreamsOf, StandAfter}
 use Rattle.vfm_dest.proofs.Loading.{are-hired}
 use Rattle.vfm_dest.proofs.ready.make_ready.Goals as goal
