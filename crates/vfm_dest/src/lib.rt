@@ -31,6 +31,8 @@ pub use staged::Staged;
 pub use whole::{stage, stage_in};
 
 #[cfg(test)]
+mod beside_tests;
+#[cfg(test)]
 mod control_tests;
 #[cfg(test)]
 mod tests;
