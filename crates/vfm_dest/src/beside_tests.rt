@@ -96,24 +96,24 @@ impl<'a> Beat for Late<'a> {
 
 // A link whose call 1 sets the first flag, and waits for the second.
 #[derive(Drop)]
-struct Slow<'a> {
-    link: ScriptLink,
+struct Slow<'a, L> {
+    link: L,
     flags: &'a Flags,
     calls: u32,
 }
 
-impl<'a> Link for Slow<'a> {
-    ghost failed_out = { λ l. ScriptLink.failed_out l.link };
+impl<'a, L: Link> Link for Slow<'a, L> {
+    ghost failed_out = { λ s. L.failed_out s.link };
 
-    ghost failed_in = { λ l. ScriptLink.failed_in l.link };
+    ghost failed_in = { λ s. L.failed_in s.link };
 
-    ghost ended = { λ l. ScriptLink.ended l.link };
+    ghost ended = { λ s. L.ended s.link };
 
-    ghost finished = { λ l. ScriptLink.finished l.link };
+    ghost finished = { λ s. L.finished s.link };
 
-    ghost sent = { λ l. ScriptLink.sent l.link };
+    ghost sent = { λ s. L.sent s.link };
 
-    ghost received = { λ l. ScriptLink.received l.link };
+    ghost received = { λ s. L.received s.link };
 
     fn send(&mut self, bytes: &[u8]) -> Result<usize, Failed> {
         self.link.send(bytes)
