@@ -3,3 +3,4 @@ pub mod Group
 pub mod Outcome
 pub mod Started
 pub mod Seat
+pub mod CellList

@@ -2,6 +2,7 @@
 //! it at once. Each has a seat; what all seats did is one run of the core.
 #![tactic(auto)]
 
+mod cells;
 mod coordinator;
 mod device;
 mod group;
