@@ -38,14 +38,7 @@ pub fn outcome_of_source<H: Threads + Sync, D: Source, W: Wires, B: Beat + Sync>
     ensures read { IsPrefixRead read_limit (source_tells (D.left desc.old) (D.faults desc.old)) (source_tells (D.left desc.new) (D.faults desc.new)) }
 {
     match read_description(alloc, desc) {
-        Ok(desc) => Outcome::Migrated(migrate(
-            rt,
-            alloc,
-            desc,
-            wires,
-            abort_after,
-            beat,
-        )),
+        Ok(desc) => Outcome::Migrated(migrate(rt, alloc, desc, wires, abort_after, beat)),
         Err(status) => Outcome::Undescribed(status),
     }
 }
