@@ -35,11 +35,11 @@ fn text_of<'a>(machines: &'a [Machine], name: &str) -> Result<&'a str, Trouble> 
 }
 
 // what comes of a case
-fn tried<H: Threads + Wait + Sync + Net>(
+fn tried<'a, H: Threads + Wait + Sync + Net>(
     rt: &H,
     alloc: Global,
-    machines: &[Machine],
-    parts: &[&str],
+    machines: &'a [Machine],
+    parts: &'a [&'a str],
 ) -> Result<String, Trouble>
 where
     H::Stream: Send,
