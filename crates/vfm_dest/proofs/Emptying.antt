@@ -13,57 +13,23 @@ use Rattle.vfm_intake_laws.specs.Arrivals.{of_channel}
 use Rattle.vfm_intake.specs.declared.intake.Intake.{Intake}
 use Rattle.vfm_intake.specs.Streams.{StandsAfter}
 use Rattle.vfm_intake.specs.Intakes.{HasTaken, with_parcel}
-use Rattle.vfm_dest.specs.Drained.{packets_in, untagged, with_packets, AreLeft, Moves, HasDrained, HasDrainedBelow}
+use Rattle.vfm_stream_work.specs.Parcels.{packets_in, untagged}
+use Rattle.vfm_stream_work.proofs.Tagged.{tag, no-more, untagged-both, channel-both, tag-here, tag-away}
+use Rattle.vfm_dest.specs.Drained.{with_more, with_all, AreLeft, Moves, HasDrained, HasDrainedBelow}
 use Rattle.vfm_dest.proofs.Weights.{below-of}
-
--- ---- packets with the numbers of their channels
-
--- a parcel that came over channel k
-abbrev tag : ℕ → Parcel → List (ℕ × Packet)
-tag k parcels.Close = []
-tag k (parcels.Packet head payload) = (k, record { head = head; payload = payload }) ∷ []
-
-no-more : {X : Type 0} (xs : List X) → xs ++ [] ≡ xs
-no-more [] = refl
-no-more (x ∷ xs) = ap (λ (l : List _). x ∷ l) (no-more xs)
-
-untagged-both : (a b : List (ℕ × Packet)) → untagged (a ++ b) ≡ untagged a ++ untagged b
-untagged-both [] b = refl
-untagged-both (x ∷ a) b = ap (λ (l : List Packet). x.1 ∷ l) (untagged-both a b)
-
-channel-both : (k : ℕ) (a b : List (ℕ × Packet)) → of_channel k (a ++ b) ≡ of_channel k a ++ of_channel k b
-channel-both k [] b = refl
-channel-both k (x ∷ a) b =
-    by_bool (x.0 == k)
-    (λ c. (if c then x.1 ∷ of_channel k (a ++ b) else of_channel k (a ++ b))
-    ≡ (if c then x.1 ∷ of_channel k a else of_channel k a) ++ of_channel k b)
-    (λ here. ap (λ (l : List Packet). x.1 ∷ l) (channel-both k a b)) (λ away. channel-both k a b)
-
--- the parcel is of its own channel
-tag-here : (k : ℕ) (parcel : Parcel) (more : List Parcel) → packets_in (parcel ∷ more) ≡ of_channel k (tag k parcel) ++ packets_in more
-tag-here k parcels.Close more = refl
-tag-here k (parcels.Packet head payload) more =
-    ap (λ (l : List Packet). l ++ packets_in more)
-    (sym (cond-true (k == k) (record { head = head; payload = payload } ∷ []) [] (eq-eqb k k refl)))
-
--- and of no other
-tag-away : (k j : ℕ) (parcel : Parcel) → (k ≡ j → ⊥) → of_channel j (tag k parcel) ≡ []
-tag-away k j parcels.Close away = refl
-tag-away k j (parcels.Packet head payload) away =
-    cond-false (k == j) (record { head = head; payload = payload } ∷ []) [] (ne_eqb k j away)
 
 -- ---- what came of each stream
 
 same-taken : (x : Intake) (D : Desc) (f g : ℕ → List Packet) → ((t : ℕ) → f t ≡ g t) → HasTaken x D f → HasTaken x D g
 same-taken x D f g same h s y low = subst (StandsAfter (slice_index_or x.streams.items s y) D s) (same s) (h s y low)
 
-with-none : (came : ℕ → List Packet) (s t : ℕ) → came t ≡ with_packets came s [] t
+with-none : (came : ℕ → List Packet) (s t : ℕ) → came t ≡ with_more came s [] t
 with-none came s t =
     by_bool (t == s) (λ c. came t ≡ (if c then came t ++ [] else came t)) (λ here. sym (no-more (came t))) (λ away. refl)
 
 with-one : (came : ℕ → List Packet) (s k : ℕ) (tagged : List (ℕ × Packet)) (parcel : Parcel) (t : ℕ)
-    → with_parcel (with_packets came s (untagged tagged)) s parcel t ≡ with_packets came s (untagged (tagged ++ tag k parcel)) t
-with-one came s k tagged parcels.Close t = ap (λ (l : List (ℕ × Packet)). with_packets came s (untagged l) t) (sym (no-more tagged))
+    → with_parcel (with_more came s (untagged tagged)) s parcel t ≡ with_more came s (untagged (tagged ++ tag k parcel)) t
+with-one came s k tagged parcels.Close t = ap (λ (l : List (ℕ × Packet)). with_more came s (untagged l) t) (sym (no-more tagged))
 with-one came s k tagged (parcels.Packet head payload) t =
     let packet : Packet = record { head = head; payload = payload } in
     by_bool (t == s)
@@ -82,7 +48,7 @@ moves-none D s rest intake = record {
   each = λ k. refl;
   none = λ k high. refl;
   others = λ k t away. refl;
-  taken = λ came h. same-taken intake D came (with_packets came s []) (with-none came s) h;
+  taken = λ came h. same-taken intake D came (with_more came s []) (with-none came s) h;
 }
 
 module _ (D : Desc) (s : ℕ) (before mid now : Rest) (from through : Intake) (moved : Moves D s before mid from through)
@@ -112,10 +78,10 @@ module _ (D : Desc) (s : ℕ) (before mid now : Rest) (from through : Intake) (m
             (tag-away given.0 k given.1 (λ e. absurd (omega (arith, e, high, channels, gives.channel))));
         others = λ k t away. gives.others k t (λ e f. away f) ∙ moved.others k t away;
         taken = λ came h.
-            same-taken to D (with_parcel (with_packets came s (untagged moved.tagged)) s given.1)
-            (with_packets came s (untagged (moved.tagged ++ tag given.0 given.1)))
+            same-taken to D (with_parcel (with_more came s (untagged moved.tagged)) s given.1)
+            (with_more came s (untagged (moved.tagged ++ tag given.0 given.1)))
             (with-one came s given.0 moved.tagged given.1)
-            (takes (with_packets came s (untagged moved.tagged)) (moved.taken came h));
+            (takes (with_more came s (untagged moved.tagged)) (moved.taken came h));
       }
 
   pub moves-all : IsSameLeft mid now → Moves D s before now from through
@@ -129,29 +95,39 @@ module _ (D : Desc) (s : ℕ) (before mid now : Rest) (from through : Intake) (m
 
 -- ---- all streams
 
-pub drained-none : (D : Desc) (rest : Rest) (intake : Intake) → HasTaken intake D (λ s. []) → HasDrainedBelow D 0 rest rest intake
-drained-none D rest intake nothing = record {
-  came = λ s. [];
-  taken = nothing;
+pub drained-none : (D : Desc) (rest : Rest) (intake : Intake) → HasDrainedBelow D 0 rest rest intake intake
+drained-none D rest intake = record {
+  tagged = λ s. [];
+  taken = λ came h. same-taken intake D came (with_all came (λ s. [])) (λ s. sym (no-more (came s))) h;
   each = λ s low. absurd (omega (arith, low));
   none = λ s high. refl;
   still = λ k s high. refl;
 }
 
-with-here : (came : ℕ → List Packet) (s : ℕ) (more : List Packet) → came s ≡ [] → more ≡ with_packets came s more s
+with-here : {X : Type 0} (came : ℕ → List X) (s : ℕ) (more : List X) → came s ≡ [] → with_more came s more s ≡ more
 with-here came s more none =
-    ap (λ (l : List Packet). l ++ more) (sym none) ∙ sym (cond-true (s == s) (came s ++ more) (came s) (eq-eqb s s refl))
+    cond-true (s == s) (came s ++ more) (came s) (eq-eqb s s refl) ∙ ap (λ (l : List _). l ++ more) none
 
-with-away : (came : ℕ → List Packet) (s t : ℕ) (more : List Packet) → (t ≡ s → ⊥) → with_packets came s more t ≡ came t
+with-away : {X : Type 0} (came : ℕ → List X) (s t : ℕ) (more : List X) → (t ≡ s → ⊥) → with_more came s more t ≡ came t
 with-away came s t more away = cond-false (t == s) (came t ++ more) (came t) (ne_eqb t s away)
 
-module _ (D : Desc) (n : ℕ) (before mid now : Rest) (from to : Intake) (drained : HasDrainedBelow D n before mid from)
-    (moved : Moves D n mid now from to) (all : (k : ℕ) → k < channels_left mid → left now k n ≡ [])
+-- more packets of one stream, behind those of all
+all-more : (came : ℕ → List Packet) (tagged : ℕ → List (ℕ × Packet)) (s : ℕ) (more : List (ℕ × Packet)) (t : ℕ)
+    → with_more (with_all came tagged) s (untagged more) t ≡ with_all came (with_more tagged s more) t
+all-more came tagged s more t =
+    by_bool (t == s)
+    (λ c. (if c then (came t ++ untagged (tagged t)) ++ untagged more else came t ++ untagged (tagged t))
+    ≡ came t ++ untagged (if c then tagged t ++ more else tagged t))
+    (λ here.
+    append_assoc (came t) (untagged (tagged t)) (untagged more)
+    ∙ ap (λ (l : List Packet). came t ++ l) (sym (untagged-both (tagged t) more)))
+    (λ away. refl)
+
+module _ (D : Desc) (n : ℕ) (before mid now : Rest) (from through to : Intake) (drained : HasDrainedBelow D n before mid from through)
+    (moved : Moves D n mid now through to) (all : (k : ℕ) → k < channels_left mid → left now k n ≡ [])
     (channels : channels_left mid ≡ channels_left before) where
-  here : AreLeft before n (with_packets drained.came n (untagged moved.tagged) n)
+  here : AreLeft before n moved.tagged
   here = record {
-    tagged = moved.tagged;
-    packets_are = with-here drained.came n (untagged moved.tagged) (drained.none n (omega arith));
     each = λ k low.
         sym (no-more (of_channel k moved.tagged))
         ∙ ap (λ (l : List Parcel). of_channel k moved.tagged ++ packets_in l) (sym (all k (omega (arith, low, channels))))
@@ -160,26 +136,30 @@ module _ (D : Desc) (n : ℕ) (before mid now : Rest) (from to : Intake) (draine
     none = λ k high. moved.none k (omega (arith, high, channels));
   }
 
-  pub drained-more : HasDrainedBelow D (n + 1) before now to
+  pub drained-more : HasDrainedBelow D (n + 1) before now from to
   drained-more = record {
-    came = with_packets drained.came n (untagged moved.tagged);
-    taken = moved.taken drained.came drained.taken;
+    tagged = with_more drained.tagged n moved.tagged;
+    taken = λ came h.
+        same-taken to D (with_more (with_all came drained.tagged) n (untagged moved.tagged)) (with_all came (with_more drained.tagged n moved.tagged))
+        (all-more came drained.tagged n moved.tagged) (moved.taken (with_all came drained.tagged) (drained.taken came h));
     each = λ s low.
         ⊎_elim
-        (λ (same : n ≡ s). subst (λ (j : ℕ). AreLeft before j (with_packets drained.came n (untagged moved.tagged) j)) same here)
+        (λ (same : n ≡ s).
+        subst (λ (j : ℕ). AreLeft before j (with_more drained.tagged n moved.tagged j)) same
+        (subst (AreLeft before n) (sym (with-here drained.tagged n moved.tagged (drained.none n (omega arith)))) here))
         (λ (away : n ≡ s → ⊥).
-        subst (AreLeft before s) (sym (with-away drained.came n s (untagged moved.tagged) (λ e. away (sym e))))
+        subst (AreLeft before s) (sym (with-away drained.tagged n s moved.tagged (λ e. away (sym e))))
         (drained.each s (below-of n s (omega (arith, low)) away))) (cases_eq n s);
     none = λ s high.
-        with-away drained.came n s (untagged moved.tagged) (λ e. absurd (omega (arith, e, high))) ∙ drained.none s (omega (arith, high));
+        with-away drained.tagged n s moved.tagged (λ e. absurd (omega (arith, e, high))) ∙ drained.none s (omega (arith, high));
     still = λ k s high. moved.others k s (λ e. absurd (omega (arith, e, high))) ∙ drained.still k s (omega (arith, high));
   }
 
 -- once all streams are taken
-pub drained-all : (D : Desc) (before now : Rest) (intake : Intake) → HasDrainedBelow D (device_count D + 1) before now intake
-    → HasDrained D before intake
-drained-all D before now intake drained = record {
-  came = drained.came;
+pub drained-all : (D : Desc) (before now : Rest) (from to : Intake) → HasDrainedBelow D (device_count D + 1) before now from to
+    → HasDrained D before from to
+drained-all D before now from to drained = record {
+  tagged = drained.tagged;
   taken = drained.taken;
   each = λ s low. drained.each s (omega (arith, low));
 }

@@ -13,7 +13,7 @@ use Rattle.vfm_recv.specs.declared.channel_end.ChannelEnd.{ChannelEnd}
 use Rattle.vfm_recv.specs.declared.channel_end.ChannelEnd.TheVariants as channel_ends
 use Rattle.vfm_recv.specs.Handed.{parcel_of, parcels_of, Closes}
 use Rattle.vfm_recv.specs.Pumped.{Says, Seen, Pumped}
-use Rattle.vfm_dest.specs.Drained.{packets_in}
+use Rattle.vfm_stream_work.specs.Parcels.{packets_in}
 use Rattle.vfm_mesh.specs.Meshes.{given_at}
 use Rattle.vfm_intake.proofs.Elements.{behind}
 use Rattle.vfm_dest.specs.Heards.{Told, untold, Brings, channel_of, IsRead, WasRead, AreRead, channels_of, channel_at}

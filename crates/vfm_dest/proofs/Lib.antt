@@ -9,3 +9,7 @@ pub mod Deciding
 pub mod Taking
 pub mod Going
 pub mod Sending
+pub mod Indexed
+pub mod Loading
+pub mod Reading
+pub mod Together

@@ -1,6 +1,7 @@
 -- The verdict on what came of channels that were read.
-use Rattle.std.proofs.Common.{◌≡◌, ◌∙◌, refl, sym, ap, subst, ℕ, zero, suc, ◌+◌, ◌<◌, ◌≤◌, true, List, [], ◌∷◌, length, map, slice_index_or, arith, ⊎_elim}
+use Rattle.std.proofs.Common.{◌≡◌, ◌∙◌, refl, sym, ap, ap₂, subst, ℕ, zero, suc, ◌+◌, ◌<◌, ◌≤◌, true, List, [], ◌∷◌, ◌++◌, length, map, slice_index_or, arith, ⊎_elim}
 use Rattle.std.proofs.lemmas.Bool.{cases_lt}
+use Rattle.std.proofs.lemmas.List.{get_or_past, length-map}
 use Rattle.vfm_types.specs.declared.desc.Desc.{Desc}
 use Rattle.vfm_types.specs.Desc.{device_count}
 use Rattle.vfm_packet.specs.declared.answer.Expect.{Expect}
@@ -10,14 +11,19 @@ use Rattle.vfm_streams.specs.Verdict.{Expects}
 use Rattle.vfm_mesh.specs.declared.parcel.Parcel.{Parcel}
 use Rattle.vfm_mesh.specs.declared.fan.Fan.{Fan}
 use Rattle.vfm_mesh.specs.declared.rest.Rest.{Rest}
-use Rattle.vfm_mesh.specs.Meshes.{channels_left, left, given_at}
+use Rattle.vfm_mesh.specs.declared.funnel.Funnel.{Funnel}
+use Rattle.vfm_mesh.specs.Rows.{all_taken, fan_rings, funnel_rings}
+use Rattle.vfm_mesh.specs.Meshes.{channels_left, left, given_at, taken_at, AreMesh}
 use Rattle.vfm_recv.specs.declared.channel_end.ChannelEnd.{ChannelEnd}
 use Rattle.vfm_recv.specs.declared.channel_end.ChannelEnd.TheVariants as channel_ends
 use Rattle.vfm_recv.specs.Pumped.{end_of}
-use Rattle.vfm_intake_laws.specs.Arrivals.{packets_at, CameFrom}
+use Rattle.vfm_packet.specs.Packet.{Packet}
+use Rattle.vfm_intake_laws.specs.Arrivals.{of_channel, packets_at, CameFrom}
 use Rattle.vfm_intake.specs.declared.intake.Intake.{Intake}
 use Rattle.vfm_intake.specs.Verdicts.{HasTakenIn}
-use Rattle.vfm_dest.specs.Drained.{packets_in, HasDrained}
+use Rattle.vfm_stream_work.specs.Parcels.{packets_in, untagged}
+use Rattle.vfm_stream_work.proofs.Tagged.{untagged-both, channel-both, packets-both}
+use Rattle.vfm_dest.specs.Drained.{with_all, HasLoaded, HasDrained}
 use Rattle.vfm_dest.specs.Heards.{Told, Brings, channels_of, AreRead}
 use Rattle.std.specs.Prelude.{Result, Ok, Err, IfOk, IfErr, OnOk, is_err, false, Vec}
 use Rattle.std.specs.declared.alloc.Global.{Global}
@@ -67,11 +73,25 @@ none-brought e [] k high = refl
 none-brought e (c ∷ came) zero high = absurd (omega (arith, high))
 none-brought e (c ∷ came) (suc k) high = none-brought e came k (omega (arith, high))
 
-module _ (D : Desc) (e : Expect) (before links : List Told) (fans : List Fan) (ends : List ChannelEnd) (rest : Rest) (intake : Intake)
+-- a funnel has as many rows of what was taken as it has rings
+rows-as-rings : (funnels : List Funnel) (s : ℕ) → length (slice_index_or (map all_taken funnels) s []) ≡ length (slice_index_or (map funnel_rings funnels) s [])
+rows-as-rings [] s = refl
+rows-as-rings (funnel ∷ funnels) zero = rw length-map (sym (rw length-map refl))
+rows-as-rings (funnel ∷ funnels) (suc s) = rows-as-rings funnels s
+
+-- of a channel that a mesh hasn't nothing was taken
+none-outside : (fans : List Fan) (funnels : List Funnel) (k s : ℕ) → AreMesh fans funnels → s < length funnels → length fans ≤ k → taken_at funnels k s ≡ []
+none-outside fans funnels k s mesh inside high =
+    get_or_past (slice_index_or (map all_taken funnels) s []) k []
+    (omega (arith, rows-as-rings funnels s, (mesh.each s (omega (arith, inside, length-map funnels funnel_rings))).channels, length-map fans fan_rings, high))
+
+module _ (D : Desc) (e : Expect) (before links : List Told) (fans : List Fan) (funnels : List Funnel) (ends : List ChannelEnd) (rest : Rest)
+    (loaded_to intake : Intake)
     (expects : Expects D e) (many : length before ≡ length fans) (same_ends : length ends ≡ length fans)
     (are : AreRead e before (channels_of links fans ends)) (told : AllTold ends)
-    (channels : channels_left rest ≡ length fans)
-    (lefts : (k s : ℕ) → k < length fans → s < device_count D + 1 → left rest k s ≡ given_at fans k s) (drained : HasDrained D rest intake) where
+    (mesh : AreMesh fans funnels) (streams : length funnels ≡ device_count D + 1) (channels : channels_left rest ≡ length fans)
+    (lefts : (k s : ℕ) → k < length fans → s < length funnels → taken_at funnels k s ++ left rest k s ≡ given_at fans k s)
+    (loaded : HasLoaded D funnels loaded_to.streams.items) (drained : HasDrained D rest loaded_to intake) where
   says : (k : ℕ) → k < length fans
       → (slice_index_or ends k channel_ends.Ended ≡ end_of (reading e (slice_index_or are.came k [])).refusal)
       × ((s : ℕ) → s < e.streams → packets_in (given_at fans k s) ≡ stream_packets s (reading e (slice_index_or are.came k [])).packets)
@@ -79,27 +99,41 @@ module _ (D : Desc) (e : Expect) (before links : List Told) (fans : List Fan) (e
       told-brings (slice_index_or ends k channel_ends.Ended) e (slice_index_or are.came k []) (given_at fans k)
       (told k (omega (arith, low, same_ends))) (are.each k (omega (arith, low, many))).brings
 
-  from : (s : ℕ) → s ≤ device_count D → CameFrom s (map (reading e) are.came) (drained.came s)
+  abbrev came : ℕ → List Packet
+  came = with_all (λ s. untagged (loaded.tagged s)) drained.tagged
+
+  inside-of : (s k : ℕ) → s ≤ device_count D → k < length fans
+      → of_channel k (loaded.tagged s) ++ of_channel k (drained.tagged s) ≡ stream_packets s (packets_at (map (reading e) are.came) k)
+  inside-of s k low inside =
+      ap₂ (λ (a b : List Packet). a ++ b) (loaded.each k s low) ((drained.each s low).each k (omega (arith, inside, channels)))
+      ∙ sym (packets-both (taken_at funnels k s) (left rest k s))
+      ∙ ap packets_in (lefts k s inside (omega (arith, low, streams)))
+      ∙ (says k inside).1 s (omega (arith, low, expects.streams))
+      ∙ ap (stream_packets s) (sym (brought-at e are.came k (omega (arith, inside, many, are.count))))
+
+  outside-of : (s k : ℕ) → s ≤ device_count D → length fans ≤ k
+      → of_channel k (loaded.tagged s) ++ of_channel k (drained.tagged s) ≡ stream_packets s (packets_at (map (reading e) are.came) k)
+  outside-of s k low outside =
+      ap₂ (λ (a b : List Packet). a ++ b)
+      (loaded.each k s low ∙ ap packets_in (none-outside fans funnels k s mesh (omega (arith, low, streams)) outside))
+      ((drained.each s low).none k (omega (arith, outside, channels)))
+      ∙ ap (stream_packets s) (sym (none-brought e are.came k (omega (arith, outside, many, are.count))))
+
+  from : (s : ℕ) → s ≤ device_count D → CameFrom s (map (reading e) are.came) (came s)
   from s low = record {
-    tagged = (drained.each s low).tagged;
-    packets_are = (drained.each s low).packets_are;
+    tagged = loaded.tagged s ++ drained.tagged s;
+    packets_are = untagged-both (loaded.tagged s) (drained.tagged s);
     each = λ k.
-        ⊎_elim
-        (λ (inside : k < length fans).
-        (drained.each s low).each k (omega (arith, inside, channels))
-        ∙ ap packets_in (lefts k s inside (omega (arith, low)))
-        ∙ (says k inside).1 s (omega (arith, low, expects.streams))
-        ∙ ap (stream_packets s) (sym (brought-at e are.came k (omega (arith, inside, many, are.count)))))
-        (λ (outside : length fans ≤ k).
-        (drained.each s low).none k (omega (arith, outside, channels))
-        ∙ ap (stream_packets s) (sym (none-brought e are.came k (omega (arith, outside, many, are.count))))) (cases_lt k (length fans));
+        channel-both k (loaded.tagged s) (drained.tagged s)
+        ∙ ⊎_elim (λ (inside : k < length fans). inside-of s k low inside) (λ (outside : length fans ≤ k). outside-of s k low outside)
+        (cases_lt k (length fans));
   }
 
   pub has-taken : HasTakenIn intake D ends (map (reading e) are.came)
   has-taken = record {
     ends_are = ends-same e ends are.came (omega (arith, are.count, many, same_ends)) (λ k low. (says k (omega (arith, low, same_ends))).0);
-    came = drained.came;
-    taken = drained.taken;
+    came = came;
+    taken = drained.taken (λ s. untagged (loaded.tagged s)) loaded.came;
     from = from;
   }
 

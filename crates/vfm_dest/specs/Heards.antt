@@ -15,7 +15,7 @@ use Rattle.vfm_mesh.specs.Meshes.{given_at}
 use Rattle.vfm_recv.specs.declared.channel_end.ChannelEnd.{ChannelEnd}
 use Rattle.vfm_recv.specs.declared.channel_end.ChannelEnd.TheVariants as channel_ends
 use Rattle.vfm_recv.specs.Pumped.{end_of, Counts, Stops}
-use Rattle.vfm_dest.specs.Drained.{packets_in}
+use Rattle.vfm_stream_work.specs.Parcels.{packets_in}
 
 -- what a link tells of what comes in
 pub record Told : Type 0 where

@@ -2,6 +2,8 @@ pub mod Stages
 pub mod StagedCores
 pub mod Drained
 pub mod Heards
+pub mod ChannelWorkers
+pub mod Crews
 pub mod Staging
 pub mod Saying
 pub mod Finishing

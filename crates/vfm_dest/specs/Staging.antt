@@ -1,5 +1,5 @@
 -- What staging answers, by what came of the links in the call.
-use Rattle.std.specs.Prelude.{◌≡◌, ℕ, ◌+◌, ◌<◌, ◌≤◌, ◌⊎◌, true, is_some, List, [], length, slice_index_or, vec_capacity, Result, Ok, Err}
+use Rattle.std.specs.Prelude.{◌≡◌, ℕ, ◌+◌, ◌<◌, ◌≤◌, ◌⊎◌, true, false, is_some, List, [], length, map, All, slice_index_or, vec_capacity, Result, Ok, Err}
 use Rattle.vfm_types.specs.declared.desc.Desc.{Desc}
 use Rattle.vfm_types.specs.Desc.{device_count}
 use Rattle.vfm_types.specs.Machine.{Machine}
@@ -9,7 +9,10 @@ use Rattle.vfm_packet.specs.declared.answer.Expect.{Expect}
 use Rattle.vfm_packet.specs.Channel.{channel_limit}
 use Rattle.vfm_streams.specs.Verdict.{Expects, Verdict, Refuses, Loads, verdict}
 use Rattle.vfm_mesh.specs.Meshes.{AreMesh, given_at, taken_at}
-use Rattle.vfm_intake.specs.Intakes.{IsIntakeOf, HasTaken}
+use Rattle.vfm_intake.specs.Intakes.{AreStreamsOf, StandAfter}
+use Rattle.vfm_stream_work.specs.declared.worker.StreamWorker.{StreamWorker}
+use Rattle.vfm_stream_work.specs.Workers.{funnel_of, intake_of, is_short}
+use Rattle.vfm_dest.specs.Crews.{HasPlaces, HasPlacesOfStreams}
 use Rattle.vfm_dest.specs.StagedCores.{StagedState}
 use Rattle.vfm_dest.specs.declared.judging.StageFault.{StageFault}
 use Rattle.vfm_dest.specs.declared.judging.StageFault.TheVariants as faults
@@ -17,19 +20,24 @@ use Rattle.vfm_dest.specs.declared.ready.Ready.{Ready}
 use Rattle.vfm_dest.specs.Heards.{Told, untold}
 use Rattle.vfm_dest.specs.Stages.{IsVerdictLoaded}
 
+-- the workers of all streams of a description, before they work
+pub record AreHired (D : Desc) (workers : List StreamWorker) : Type 0 where
+  pub streams : length workers ≡ device_count D + 1
+  pub made : AreStreamsOf D (map intake_of workers)
+  pub nothing : StandAfter D (λ s. []) (map intake_of workers)
+  pub taken : (k s : ℕ) → taken_at (map funnel_of workers) k s ≡ []
+  pub short : All (λ w. is_short w ≡ false) workers
+
 -- all is ready to read the channels of a description
 pub record IsReadyFor {L : Type 0} (D : Desc) (ready : Ready L) : Type 0 where
-  pub made : IsIntakeOf ready.intake D
-  pub nothing : HasTaken ready.intake D (λ s. [])
-  pub mesh : AreMesh ready.fans.items ready.funnels.items
+  pub hired : AreHired D ready.streams.items
+  pub mesh : AreMesh ready.fans.items (map funnel_of ready.streams.items)
   pub fans : length ready.fans.items ≡ D.channels
-  pub funnels : length ready.funnels.items ≡ device_count D + 1
   pub given : (k s : ℕ) → given_at ready.fans.items k s ≡ []
-  pub taken : (k s : ℕ) → taken_at ready.funnels.items k s ≡ []
-  pub no_links : ready.all.links.items ≡ []
-  pub no_ends : ready.all.ends.items ≡ []
-  pub links_room : D.channels ≤ vec_capacity ready.all.links
-  pub ends_room : D.channels ≤ vec_capacity ready.all.ends
+  pub no_channels : ready.channels.items ≡ []
+  pub channels_room : D.channels ≤ vec_capacity ready.channels
+  pub heard : HasPlaces D.channels ready.heard
+  pub left : HasPlacesOfStreams (device_count D + 1) ready.taken
 
 -- what the links tell before a call and after it
 pub record Links : Type 0 where

@@ -4,6 +4,7 @@ use super::*;
 use crate::worked::{DIGEST, channel, described, link, staged};
 use std::alloc::Global;
 use std::test::Fail;
+use std::thread::Threads;
 use vfm_handshake::GoFault;
 use vfm_outside::ScriptLink;
 use vfm_types::{DeviceId, Entry, MigState, Refusal};
@@ -16,10 +17,10 @@ static REFUSED: [u8; 12] = [0x56, 0x46, 0x4d, 0x52, 0, 0, 0, 0, 0, 0, 0, 7];
 static GO: [u8; 12] = [0x56, 0x46, 0x4d, 0x47, 0, 0, 0, 0, 0, 0, 0, 7];
 
 // The worked machine, staged.
-fn worked(alloc: Global) -> Result<Staged, Fail> {
+fn worked<H: Threads + Sync>(rt: &H, alloc: Global) -> Result<Staged, Fail> {
     let desc = described(alloc, 1, 1)?;
     let links = vec![in alloc; link(alloc, channel(alloc, 1)?, &[])?]?;
-    match staged(alloc, &desc, links, 4)? {
+    match staged(rt, alloc, &desc, links, 4)? {
         Ok(staged) => Ok(staged),
         Err(_) => Err(Fail::from("nothing was staged")),
     }
@@ -37,7 +38,7 @@ fn frame(alloc: Global, letters: &[u8], body: &[u8], most: usize) -> Result<Vec<
 fn a_staged_machine_is_answered_with_its_digest(rt: HostRuntime) -> Result<(), Fail> {
     let alloc = rt.alloc();
     let mut near = link(alloc, Vec::new(alloc), &[])?;
-    assert!(rt; answer(&mut near, 7, &Ok(worked(alloc)?)).is_ok());
+    assert!(rt; answer(&mut near, 7, &Ok(worked(&rt, alloc)?)).is_ok());
     assert_eq!(rt; near.sent(), &*frame(alloc, &STAGED, &DIGEST, 44)?);
     assert!(rt; !near.has_finished());
     Ok(())
@@ -87,7 +88,7 @@ fn an_answer_may_fail(rt: HostRuntime) -> Result<(), Fail> {
 fn a_machine_runs_once_go_came(rt: HostRuntime) -> Result<(), Fail> {
     let alloc = rt.alloc();
     let mut go = link(alloc, frame(alloc, &GO, &DIGEST, 44)?, &[])?;
-    let core = match finish(worked(alloc)?, &mut go) {
+    let core = match finish(worked(&rt, alloc)?, &mut go) {
         Ok(core) => core,
         Err(_) => return Err(Fail::from("no machine")),
     };
@@ -128,14 +129,17 @@ fn a_machine_does_not_run_without_go(rt: HostRuntime) -> Result<(), Fail> {
     for (most, bytes) in [(0, 0), (1, 1), (43, 43)] {
         let mut cut = link(alloc, frame(alloc, &GO, &DIGEST, most)?, &[])?;
         assert_eq!(rt;
-            heard_in(&unfinished(worked(alloc)?, &mut cut)?),
+            heard_in(&unfinished(worked(&rt, alloc)?, &mut cut)?),
             Some(bytes)
         );
         assert!(rt; cut.has_ended());
     }
     // its own answer in place of Go
     let mut echo = link(alloc, frame(alloc, &STAGED, &DIGEST, 44)?, &[])?;
-    assert_eq!(rt; heard_in(&unfinished(worked(alloc)?, &mut echo)?), Some(44));
+    assert_eq!(rt;
+        heard_in(&unfinished(worked(&rt, alloc)?, &mut echo)?),
+        Some(44)
+    );
     Ok(())
 }
 
@@ -145,7 +149,7 @@ fn a_machine_does_not_run_on_another_go(rt: HostRuntime) -> Result<(), Fail> {
     let mut digest = DIGEST;
     digest[31] = 0;
     let mut other = link(alloc, frame(alloc, &GO, &digest, 44)?, &[])?;
-    match unfinished(worked(alloc)?, &mut other)? {
+    match unfinished(worked(&rt, alloc)?, &mut other)? {
         GoFault::Other { ours, theirs } => {
             assert_eq!(rt; ours, DIGEST);
             assert_eq!(rt; theirs, digest);
@@ -153,7 +157,7 @@ fn a_machine_does_not_run_on_another_go(rt: HostRuntime) -> Result<(), Fail> {
         _ => return Err(Fail::from("another digest")),
     }
     let mut failing = link(alloc, frame(alloc, &GO, &DIGEST, 44)?, &[0])?;
-    match unfinished(worked(alloc)?, &mut failing)? {
+    match unfinished(worked(&rt, alloc)?, &mut failing)? {
         GoFault::Link => assert_eq!(rt; failing.faults(), 1),
         _ => return Err(Fail::from("a failing link")),
     }

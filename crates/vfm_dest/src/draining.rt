@@ -10,12 +10,12 @@ use vfm_intake::Intake;
 use vfm_mesh::{Parcel, Rest};
 use vfm_types::{Desc, NoMemory};
 
-/// Takes all that is left in a mesh, stream by stream, into an intake.
+/// Takes all that is left in a mesh, stream by stream, into an intake, behind what came to it before.
 pub fn drain(desc: &Desc, rest: &mut Rest, intake: &mut Intake) -> Result<(), NoMemory>
     requires made { IsIntakeOf intake.old desc.now }
     requires streams { streams_left rest.old ≡ device_count desc.now + 1 }
     ensures made { IsIntakeOf intake.new desc.now }
-    ensures drained { OnOk result (HasTaken intake.old desc.now (λ s. []) → HasDrained desc.now rest.old intake.new) }
+    ensures drained { OnOk result (HasDrained desc.now rest.old intake.old intake.new) }
 {
     for stream in 0..desc.devices.len() + 1 {
         drain_stream(desc, stream, rest, intake)?;

@@ -7,7 +7,8 @@ use crate::{StageFault, Staged, stage_in};
 use sha2::{Digest, Sha256};
 use std::alloc::Global;
 use std::test::Fail;
-use vfm_outside::ScriptLink;
+use std::thread::Threads;
+use vfm_outside::{NoBeat, ScriptLink};
 use vfm_types::{Bars, Bytes64, Desc, DevShape, Flags, Job, Jobs, Name, Queue, Refusal, Shapes};
 
 /// Where a packet or the end of the worked channel begins, and where the channel ends.
@@ -221,7 +222,8 @@ pub fn link(alloc: Global, inbox: Vec<u8>, fail: &[u32]) -> Result<ScriptLink, F
 }
 
 /// What is staged of these links, through rings of so many slots.
-pub fn staged(
+pub fn staged<H: Threads + Sync>(
+    rt: &H,
     alloc: Global,
     desc: &Desc,
     links: Vec<ScriptLink>,
@@ -232,7 +234,7 @@ pub fn staged(
     if links.len() != desc.channels as usize || slots == 0 {
         return Err(Fail::from("channels"));
     }
-    let (_, answer) = stage_in(alloc, desc, links, slots);
+    let (_, answer) = stage_in(rt, alloc, desc, links, slots, &NoBeat);
     Ok(answer)
 }
 
@@ -253,7 +255,8 @@ pub fn refusal_in(answer: Result<Staged, StageFault>) -> Result<(u32, u64, u64),
 }
 
 /// The refusal of the worked channel, cut and changed so.
-pub fn refused(
+pub fn refused<H: Threads + Sync>(
+    rt: &H,
     alloc: Global,
     version: u8,
     pieces: &[(usize, usize)],
@@ -262,5 +265,5 @@ pub fn refused(
     let desc = described(alloc, 1, u16::from(version))?;
     let whole = channel(alloc, version)?;
     let links = vec![in alloc; link(alloc, cut(alloc, whole.as_slice(), pieces, set)?, &[])?]?;
-    refusal_in(staged(alloc, &desc, links, 4)?)
+    refusal_in(staged(rt, alloc, &desc, links, 4)?)
 }

@@ -1,5 +1,8 @@
 //! The worker of one stream.
 
+ghost use Rattle.std.specs.Prelude.{◌≡◌};
+ghost use Rattle.vfm_streams.specs.Whole.{is_config};
+
 use std::thread;
 use vfm_intake::StreamIntake;
 use vfm_mesh::{Funnel, Parcel};
@@ -111,9 +114,6 @@ impl StreamWorker {
         (funnel, intake, is_short)
     }
 }
-
-ghost use Rattle.std.specs.Prelude.{◌≡◌};
-ghost use Rattle.vfm_streams.specs.Whole.{is_config};
 
 // Whether a packet of this kind is a config packet.
 fn is_config(kind: Kind) -> bool

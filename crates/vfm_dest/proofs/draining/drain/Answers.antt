@@ -17,7 +17,7 @@ loop-stream-preserved c =
       made = c.drain_stream.ensures.made;
       streams = c.drain_stream.ensures.streams ∙ inv.streams;
       channels = c.drain_stream.ensures.channels ∙ inv.channels;
-      drained = λ nothing.
-          drained-more c.args.desc.now c.loop-stream.stream c.args.rest.now c.loop-stream.rest c.drain_stream.new.rest c.loop-stream.intake
-          c.drain_stream.new.intake (inv.drained nothing) c.in_ok-drain_stream.ensures.moved c.in_ok-drain_stream.ensures.all inv.channels;
+      drained =
+          drained-more c.args.desc.now c.loop-stream.stream c.args.rest.now c.loop-stream.rest c.drain_stream.new.rest c.args.intake.now
+          c.loop-stream.intake c.drain_stream.new.intake inv.drained c.in_ok-drain_stream.ensures.moved c.in_ok-drain_stream.ensures.all inv.channels;
     }

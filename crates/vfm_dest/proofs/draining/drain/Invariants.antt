@@ -1,7 +1,7 @@
 -- All of the streams so far was taken.
-use Rattle.std.proofs.Common.{◌≡◌, []}
+use Rattle.std.proofs.Common.{◌≡◌}
 use Rattle.vfm_mesh.specs.Meshes.{streams_left, channels_left}
-use Rattle.vfm_intake.specs.Intakes.{IsIntakeOf, HasTaken}
+use Rattle.vfm_intake.specs.Intakes.{IsIntakeOf}
 use Rattle.vfm_dest.specs.Drained.{HasDrainedBelow}
 use Rattle.vfm_dest.proofs.draining.drain.Given as goal
 
@@ -10,5 +10,5 @@ invariant-loop-stream l = record {
   made : IsIntakeOf l.intake l.desc;
   streams : streams_left l.rest ≡ streams_left l.initial.rest;
   channels : channels_left l.rest ≡ channels_left l.initial.rest;
-  drained : HasTaken l.initial.intake l.desc (λ s. []) → HasDrainedBelow l.desc l.stream l.initial.rest l.rest l.intake;
+  drained : HasDrainedBelow l.desc l.stream l.initial.rest l.rest l.initial.intake l.intake;
 }
