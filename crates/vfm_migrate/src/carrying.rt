@@ -21,8 +21,9 @@ use crate::channels::{offer, stage};
 use crate::control::{answer, offer_status, refuse};
 use crate::step::Step;
 use std::alloc::Global;
+use std::thread::Threads;
 use vfm_dest::{StageFault, Staged};
-use vfm_outside::{Ends, Link};
+use vfm_outside::{Beat, Ends, Link};
 use vfm_source::{Mover, OfferFault};
 use vfm_types::Desc;
 
@@ -65,12 +66,14 @@ fn shake<L: Link>(
 
 /// Offers the machine, stages what came, answers, hears the answer, and compares both machines. The links come back in
 /// their order.
-pub(crate) fn carry<L: Link>(
+pub(crate) fn carry<H: Threads + Sync, L: Link, B: Beat + Sync>(
+    rt: &H,
     alloc: Global,
     desc: &Desc,
     mover: &mut Mover,
     ends: Ends<L>,
     abort_after: u32,
+    beat: &B,
 ) -> (Ends<L>, Step)
     requires fresh { mover.old.phase ≡ phases.Fresh }
     requires same { mover.old.core.desc ≡ desc.now }
@@ -93,7 +96,7 @@ pub(crate) fn carry<L: Link>(
         dest,
     } = ends;
     let (source, offered) = offer(alloc, mover, source, abort_after);
-    let (dest, staged) = stage(alloc, desc, dest);
+    let (dest, staged) = stage(rt, alloc, desc, dest, beat);
     let step = shake(
         desc,
         mover,

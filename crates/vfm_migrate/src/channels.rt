@@ -12,8 +12,9 @@ ghost use Rattle.vfm_migrate.specs.Brought.{StagedFor};
 ghost use Rattle.vfm_migrate.specs.Offered.{IsOffered};
 
 use std::alloc::Global;
+use std::thread::Threads;
 use vfm_dest::{StageFault, Staged};
-use vfm_outside::Link;
+use vfm_outside::{Beat, Link};
 use vfm_source::{Mover, OfferFault};
 use vfm_types::Desc;
 
@@ -41,10 +42,12 @@ pub(crate) fn offer<L: Link>(
 }
 
 /// Stages the machine that came over new links.
-pub(crate) fn stage<L: Link>(
+pub(crate) fn stage<H: Threads + Sync, L: Link, B: Beat + Sync>(
+    rt: &H,
     alloc: Global,
     desc: &Desc,
     links: Vec<L>,
+    beat: &B,
 ) -> (Vec<L>, Result<Staged, StageFault>)
     requires valid { IsValid desc.now }
     requires channels { length links.items ≡ desc.now.channels }
@@ -54,5 +57,5 @@ pub(crate) fn stage<L: Link>(
     ensures links { length result.0.items ≡ length links.items }
     ensures desc { IfOk result.1 (λ staged. (core_of staged).desc ≡ desc.now) }
 {
-    vfm_dest::stage(alloc, desc, links)
+    vfm_dest::stage(rt, alloc, desc, links, beat)
 }

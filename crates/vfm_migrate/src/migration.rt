@@ -17,9 +17,10 @@ use crate::Step;
 use crate::carrying::carry;
 use crate::concluding::{commit_over, go_home};
 use std::alloc::Global;
+use std::thread::Threads;
 use vfm_core::Core;
 use vfm_dest::Staged;
-use vfm_outside::{ConnectFault, Ends, Wires};
+use vfm_outside::{Beat, ConnectFault, Ends, Wires};
 use vfm_source::Mover;
 use vfm_status::{Doubt, Status};
 use vfm_types::{Desc, LinkPlace, NoMemory};
@@ -43,14 +44,22 @@ pub struct Migration {
 /// machine; then the destination takes it over and runs it to its end. Where anything fails before Go, or pass `abort_after`
 /// has ended (0 is never), the source gives up and runs the machine to its end itself. Where Go was begun and the destination
 /// didn't take over, neither runs on. `wires` are asked for links once at most, and get them back. Memory is taken before Go
-/// alone: from there on, and to give up, none is.
-pub fn migrate<W: Wires>(alloc: Global, desc: Desc, wires: &mut W, abort_after: u32) -> Migration
+/// alone: from there on, and to give up, none is. The destination's workers, which `beat` is told of, work beside one
+/// another.
+pub fn migrate<H: Threads + Sync, W: Wires, B: Beat + Sync>(
+    rt: &H,
+    alloc: Global,
+    desc: Desc,
+    wires: &mut W,
+    abort_after: u32,
+    beat: &B,
+) -> Migration
     requires { IsValid desc }
     ensures { IsMigrated (attempt_of abort_after (wires_tell (W.asked wires.old) (W.carried wires.old) (W.faults wires.old))
         (wires_tell (W.asked wires.new) (W.carried wires.new) (W.faults wires.new))) desc result }
 {
     match sides(alloc, desc) {
-        Ok((mover, desc)) => move_between(alloc, mover, &desc, wires, abort_after),
+        Ok((mover, desc)) => move_between(rt, alloc, mover, &desc, wires, abort_after, beat),
         Err(_) => Migration {
             status: Status::NoMemory,
             source: None,
@@ -71,12 +80,14 @@ fn sides(alloc: Global, desc: Desc) -> Result<(Mover, Desc), NoMemory>
 }
 
 /// Asks for links, and moves the machine over them.
-fn move_between<W: Wires>(
+fn move_between<H: Threads + Sync, W: Wires, B: Beat + Sync>(
+    rt: &H,
     alloc: Global,
     mover: Mover,
     desc: &Desc,
     wires: &mut W,
     abort_after: u32,
+    beat: &B,
 ) -> Migration
     requires valid { IsValid desc.now }
     requires first { IsFirst desc.now mover }
@@ -84,7 +95,7 @@ fn move_between<W: Wires>(
         (wires_tell (W.asked wires.new) (W.carried wires.new) (W.faults wires.new))) desc.now result }
 {
     match wires.connect(desc.channels) {
-        Ok(ends) => move_over(alloc, mover, desc, wires, ends, abort_after),
+        Ok(ends) => move_over(rt, alloc, mover, desc, wires, ends, abort_after, beat),
         Err(ConnectFault::Failed) => alone(mover, Status::LinkFault(LinkPlace::Connect)),
         Err(ConnectFault::NoMemory) => alone(mover, Status::NoMemory),
     }
@@ -107,13 +118,15 @@ fn alone(mut mover: Mover, status: Status) -> Migration
 }
 
 /// Moves the machine over these links, and takes them in again.
-fn move_over<W: Wires>(
+fn move_over<H: Threads + Sync, W: Wires, B: Beat + Sync>(
+    rt: &H,
     alloc: Global,
     mut mover: Mover,
     desc: &Desc,
     wires: &mut W,
     ends: Ends<W::L>,
     abort_after: u32,
+    beat: &B,
 ) -> Migration
     requires valid { IsValid desc.now }
     requires first { IsFirst desc.now mover }
@@ -122,7 +135,7 @@ fn move_over<W: Wires>(
         → HasConnected desc.now.channels before (wires_tell (W.asked wires.old) (W.carried wires.old) (W.faults wires.old))
         → IsMigrated (attempt_of abort_after before (wires_tell (W.asked wires.new) (W.carried wires.new) (W.faults wires.new))) desc.now result }
 {
-    let (ends, step) = carry(alloc, desc, &mut mover, ends, abort_after);
+    let (ends, step) = carry(rt, alloc, desc, &mut mover, ends, abort_after, beat);
     match step {
         Step::Decided { status, loaded } => {
             go_home(&mut mover);

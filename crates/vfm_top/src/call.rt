@@ -66,16 +66,16 @@ pub fn local<D: Source, R: Source, S: Sink>(
 /// end or up to 16,777,217 bytes, by `run` and `audit` alone, and a report to its end or up to 134,217,729 bytes, by
 /// `audit` alone; a failed read is `ReadFault`, whatever another read would give. `wires` are asked for links once at most,
 /// by `run` alone, and get them back before anything is printed. Where a write to `out` fails, the answer is `WriteFault`,
-/// and `out` has a prefix of the text. `beat` is for workers, of which there are none yet.
+/// and `out` has a prefix of the text. `beat` is told of the attempts of the destination's workers.
 pub fn run<H: Threads + Wait + Sync, D: Source, R: Source, S: Sink, W: Wires, B: Beat + Sync>(
-    _rt: &H,
+    rt: &H,
     alloc: Global,
     words: &[String],
     desc: &mut D,
     report: &mut R,
     wires: &mut W,
     out: &mut S,
-    _beat: &B,
+    beat: &B,
 ) -> Status
     ensures { Promises (call_of (map string_bytes words.now)
         (outside (source_tells (D.left desc.old) (D.faults desc.old)) (source_tells (R.left report.old) (R.faults report.old))
@@ -87,7 +87,7 @@ pub fn run<H: Threads + Wait + Sync, D: Source, R: Source, S: Sink, W: Wires, B:
     match local(alloc, words, desc, report, out) {
         Some(status) => status,
         None => print_outcome(
-            outcome_of_source(alloc, desc, wires, abort_after(words)),
+            outcome_of_source(rt, alloc, desc, wires, abort_after(words), beat),
             out,
         ),
     }

@@ -7,8 +7,9 @@ ghost use Rattle.vfm_top.specs.Outcome.{HasOutcome, IsCallOver, IsPrintable, mad
 use crate::Status;
 use crate::description::read_description;
 use std::alloc::Global;
+use std::thread::Threads;
 use vfm_migrate::{Migration, migrate};
-use vfm_outside::{Source, Wires};
+use vfm_outside::{Beat, Source, Wires};
 
 /// What a call that asks for a move came to.
 #[derive(Drop)]
@@ -21,11 +22,13 @@ pub enum Outcome {
 
 /// Reads a description and migrates the machine that it describes; the source is to give up once this pass has ended, with 0
 /// never.
-pub fn outcome_of_source<D: Source, W: Wires>(
+pub fn outcome_of_source<H: Threads + Sync, D: Source, W: Wires, B: Beat + Sync>(
+    rt: &H,
     alloc: Global,
     desc: &mut D,
     wires: &mut W,
     abort_after: u32,
+    beat: &B,
 ) -> Outcome
     ensures outcome { (call : Called)
         → IsCallOver abort_after (move_tells (source_tells (D.left desc.old) (D.faults desc.old)) (wires_tell (W.asked wires.old) (W.carried wires.old) (W.faults wires.old)))
@@ -35,7 +38,7 @@ pub fn outcome_of_source<D: Source, W: Wires>(
     ensures read { IsPrefixRead read_limit (source_tells (D.left desc.old) (D.faults desc.old)) (source_tells (D.left desc.new) (D.faults desc.new)) }
 {
     match read_description(alloc, desc) {
-        Ok(desc) => Outcome::Migrated(migrate(alloc, desc, wires, abort_after)),
+        Ok(desc) => Outcome::Migrated(migrate(rt, alloc, desc, wires, abort_after, beat)),
         Err(status) => Outcome::Undescribed(status),
     }
 }
