@@ -66,8 +66,7 @@ pub fn local<D: Source, R: Source, S: Sink>(
 /// end or up to 16,777,217 bytes, by `run` and `audit` alone, and a report to its end or up to 134,217,729 bytes, by
 /// `audit` alone; a failed read is `ReadFault`, whatever another read would give. `wires` are asked for links once at most,
 /// by `run` alone, and get them back before anything is printed. Where a write to `out` fails, the answer is `WriteFault`,
-/// and `out` has a prefix of the text. `beat` is told of the
-/// attempts of the destination's workers.
+/// and `out` has a prefix of the text. `beat` is told of the attempts of the destination's workers.
 pub fn run<H: Threads + Wait + Sync, D: Source, R: Source, S: Sink, W: Wires, B: Beat + Sync>(
     rt: &H,
     alloc: Global,
