@@ -1,5 +1,5 @@
 -- What came of a description, and of which calls that is the outcome.
-use Rattle.std.specs.Prelude.{◌≡◌, ℕ, ◌<◌, Option, Some, None, IfSome}
+use Rattle.std.specs.Prelude.{◌≡◌, ℕ, ◌<◌, ◌^◌, Option, Some, None, IfSome}
 use Rattle.vfm_types.specs.Desc.{device_count}
 use Rattle.vfm_outside.specs.Tells.{SourceTells, WiresTell}
 use Rattle.vfm_plain.specs.Report.{Made}
@@ -12,7 +12,7 @@ use Rattle.vfm_move.specs.Contact.{Contact, Untouched}
 use Rattle.vfm_move.specs.Causes.{Story}
 use Rattle.vfm_migrate.specs.declared.migration.Migration.{Migration}
 use Rattle.vfm_migrate.specs.Migrations.{made_in}
-use Rattle.vfm_top.specs.declared.words.Form.TheVariants.{Run, Audit}
+use Rattle.vfm_top.specs.declared.words.Form.TheVariants.{Run, Load, Audit}
 use Rattle.vfm_top.specs.declared.outcome.Outcome.{Outcome}
 use Rattle.vfm_top.specs.declared.outcome.Outcome.TheVariants.{Undescribed, Migrated}
 use Rattle.vfm_top.specs.Form.{form_of}
@@ -69,6 +69,15 @@ pub record IsCallOver (pass : ℕ) (old new : MoveTells) (call : Call) : Type 0 
   pub now : call.now.desc ≡ new.desc
   pub wires_before : call.before.wires ≡ old.wires
   pub wires_now : call.now.wires ≡ new.wires
+  pub unaudited : call.now.report ≡ call.before.report
+
+-- A call that asks for load N, leaves both sources alone, and whose wires told this before it and after it.
+pub record IsLoadOver (number : ℕ) (old new : WiresTell) (call : Call) : Type 0 where
+  pub asked : form_of call.words ≡ Some (Load number)
+  pub small : number < 2 ^ 32
+  pub wires_before : call.before.wires ≡ old
+  pub wires_now : call.now.wires ≡ new
+  pub unread : call.now.desc ≡ call.before.desc
   pub unaudited : call.now.report ≡ call.before.report
 
 -- what both sources show at one moment
