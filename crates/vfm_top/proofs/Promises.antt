@@ -16,7 +16,7 @@ use Rattle.vfm_report.specs.Printed.{IsPrinted as IsPrintedMade}
 use Rattle.vfm_audit.specs.Audited.{IsAuditOf, IsJointState}
 use Rattle.vfm_audit.proofs.Audits.{clean_run, legal_run}
 use Rattle.vfm_top.specs.declared.words.Form.{Form}
-use Rattle.vfm_top.specs.declared.words.Form.TheVariants.{Run, Audit, Paths}
+use Rattle.vfm_top.specs.declared.words.Form.TheVariants.{Run, Load, Audit, Paths}
 use Rattle.vfm_status.specs.declared.status.Status.{Status}
 use Rattle.vfm_status.specs.declared.status.Status.TheVariants.{Moved, Printed, BadWords, BadDescription, ReadFault, WriteFault, LinkFault, Refused, Unconfirmed, InDoubt, Differs, Aborted, ArcFailed, NoControl, PathRefused, Broken, BadReport, StateDiffers, NoMemory}
 use Rattle.vfm_status.specs.declared.status.Doubt.{Doubt}
@@ -26,11 +26,11 @@ use Rattle.vfm_move.specs.Causes.{Story}
 use Rattle.vfm_move.specs.Table.{Owner, WentOn, owner_at}
 use Rattle.vfm_migrate.specs.Migrations.{CameTo}
 use Rattle.vfm_top.specs.Table.{Reached, ReachedIf, is_of_move}
-use Rattle.vfm_top.specs.Call.{Call, read_limit, report_limit, HasReadFault, HasReportFault, HasWriteFault, IsPrefixRead}
+use Rattle.vfm_top.specs.Call.{Call, read_limit, report_limit, HasReadFault, HasReportFault, HasWriteFault, IsPrefixRead, IsPrinted}
 use Rattle.vfm_top.specs.Text.{text, report, audit_text, path_text, path_status}
-use Rattle.vfm_top.specs.Causes.{is_run, is_audit, pass_of, reads_description, MoveCause, AuditCause, PathCause, CauseOf, BringsOf, HasCause, IsUnforeseen, OfReport, OfShownBytes}
+use Rattle.vfm_top.specs.Causes.{is_run, is_audit, load_of, pass_of, reads_description, MoveCause, AuditCause, PathCause, CauseOf, BringsOf, HasCause, IsUnforeseen, OfReport, OfShownBytes}
 use Rattle.vfm_top.specs.Outcome.{HasOutcome, nothing_made}
-use Rattle.vfm_top.specs.Answers.{is_refusal, IsCounted, IsLegalReport, IsOutcome, IsPrinted, Ends, Answers, HasNoFault, LeavesRest, LeavesMachine, Means, Promises}
+use Rattle.vfm_top.specs.Answers.{is_refusal, IsCounted, IsLegalReport, IsOutcome, Ends, Answers, HasNoFault, LeavesRest, LeavesMachine, Means, Promises}
 use Rattle.vfm_top.proofs.Causes.{explained, machine_or_refusal}
 use Rattle.vfm_top.proofs.Outcomes.{cause_of}
 
@@ -365,11 +365,12 @@ with_path call from to flags form desc rest wires ends =
     (untouched call desc rest wires)
 
 -- words that ask for a move, with the pass that they name
-pub asked_run : (form : Option Form) → IsTrue (is_run form) → (pass : ℕ) → pass ≡ pass_of form → form ≡ Some (Run pass)
-asked_run None run pass named = absurd cc
-asked_run (Some (Run named)) run pass is = rw is refl
-asked_run (Some Audit) run pass named = absurd cc
-asked_run (Some (Paths from to flags)) run pass named = absurd cc
+pub asked_run : (form : Option Form) → IsTrue (is_run form) → (pass : ℕ) → pass ≡ pass_of form → load_of form ≡ None → form ≡ Some (Run pass)
+asked_run None run pass named unloaded = absurd cc
+asked_run (Some (Run named)) run pass is unloaded = rw is refl
+asked_run (Some (Load number)) run pass named unloaded = absurd cc
+asked_run (Some Audit) run pass named unloaded = absurd cc
+asked_run (Some (Paths from to flags)) run pass named unloaded = absurd cc
 
 -- words that ask for a move read a description, and no report
 pub with_move : (call : Call) (pass : ℕ) (status : Status) (made : Option Made) → form_of call.words ≡ Some (Run pass) → HasOutcome call status made
