@@ -21,7 +21,7 @@ use Rattle.vfm_move.specs.Causes.{Story}
 use Rattle.vfm_move.specs.Move as migrating
 use Rattle.vfm_top.specs.Table.{Reached}
 use Rattle.vfm_top.specs.Call.{Call, attempt_in, bytes_read, read_limit, report_limit, HasReadFault, HasReportFault, HasWriteFault, IsPrefixRead, IsPrinted}
-use Rattle.vfm_top.specs.Text.{report, text}
+use Rattle.vfm_top.specs.Text.{moved_text, text}
 use Rattle.vfm_top.specs.Load.{EndsLoad, RanOut}
 use Rattle.vfm_top.specs.Causes.{is_run, is_audit, pass_of, reads_description, IsExplained, IsAsked, Brings, OfReport}
 
@@ -72,14 +72,14 @@ pub record LeavesRest (call : Call) : Type 0 where
   pub read : IsPrefixRead read_limit call.before.desc call.now.desc
   pub report_read : IsPrefixRead report_limit call.before.report call.now.report
 
--- where a machine is after a call that printed a report of it: with this owner
+-- where a machine is after a call that printed a report of it, or the summary of a load: with this owner
 pub record LeavesMachine (owner : Owner) (call : Call) : Type 0 where
   pub made : Made
   pub asked : IsAsked call made.desc
   pub run : IsOneRun made
   pub states : HasItsStates made
   pub kept : EndsWith owner made
-  pub printed : IsPrinted (report call.answer (Some made)) call.before.out call.now.out
+  pub printed : IsPrinted (moved_text (form_of call.words) call.answer (Some made)) call.before.out call.now.out
 
 -- an answer before which the source went on
 abbrev pub is_refusal : Status → Bool

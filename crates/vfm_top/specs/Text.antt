@@ -71,6 +71,11 @@ abbrev pub audit_text : Status → ℕ → List ℕ
 audit_text Printed entries = line (codes "status") (codes "legal" ∷ decimal entries ∷ [])
 audit_text status entries = status_line status
 
+-- what is printed of a move at a status, with what was made: the summary of a generated load, or the report
+abbrev pub moved_text : Option Form → Status → Option Made → List ℕ
+moved_text (Some (Load number)) status made = load_report number status made
+moved_text form status made = report status made
+
 -- what is printed for words of a form, or of none, at a status, with what was made, or with so many entries of a report
 abbrev pub text : Option Form → Status → Option Made → ℕ → List ℕ
 text None status made entries = status_line BadWords
