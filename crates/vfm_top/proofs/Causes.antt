@@ -1,5 +1,5 @@
 -- A cause explains its status: nothing else that can be seen brings another.
-use Rattle.std.proofs.Common.{◌≡◌, ◌⊎◌, ℕ, List, Option, Some, None, IfSome, Result, Ok, Err, IsOk, refl, sym, ◌∙◌, ap, inl, inr, subst, length, ◌<◌, ◌≤◌, arith}
+use Rattle.std.proofs.Common.{◌≡◌, ◌⊎◌, ℕ, List, Option, Some, None, IfSome, Result, Ok, Err, IsOk, refl, sym, ◌∙◌, ap, inl, inr, subst, length, ◌<◌, ◌≤◌, arith, Contains}
 use Rattle.std.specs.Option.{IsSomeAnd}
 use Rattle.vfm_types.specs.declared.desc.Desc.{Desc}
 use Rattle.vfm_types.specs.declared.fault.DescFault.{DescFault}
@@ -7,7 +7,9 @@ use Rattle.vfm_types.specs.declared.entry.Rule.{Rule}
 use Rattle.vfm_types.specs.declared.state.PathFault.{PathFault}
 use Rattle.vfm_types.specs.declared.state.MigState.{MigState}
 use Rattle.vfm_types.specs.Paths.{path_of}
-use Rattle.vfm_plain.specs.Report.{Made, journal}
+use Rattle.vfm_types.specs.declared.entry.Entry.TheVariants.{Fail}
+use Rattle.vfm_outside.specs.Links.{ToldEnds}
+use Rattle.vfm_plain.specs.Report.{Made, journal, source_past}
 use Rattle.vfm_desc.specs.Described.{description_of}
 use Rattle.vfm_report.specs.Reports.{IsReport, IsBadLine}
 use Rattle.vfm_report.proofs.Whole.{clear, one-bad-line, one-report}
@@ -22,12 +24,12 @@ use Rattle.vfm_status.specs.declared.status.Status.{Status}
 use Rattle.vfm_status.specs.declared.status.Doubt.TheVariants.{NoGo, Other}
 use Rattle.vfm_status.specs.declared.status.Status.TheVariants.{Printed, BadDescription, ReadFault, NoMemory, PathRefused, Broken, BadReport, StateDiffers, Unconfirmed, InDoubt, Differs, Aborted, ArcFailed, NoControl}
 use Rattle.vfm_top.specs.Form.{form_of}
-use Rattle.vfm_move.specs.Contact.{AreTold, Untouched}
+use Rattle.vfm_move.specs.Contact.{AreTold, Contact, Untouched, Failed, Linked, IsLinkedAnd}
 use Rattle.vfm_move.specs.Causes as migrating
-use Rattle.vfm_move.specs.Causes.{Attempt, Story}
+use Rattle.vfm_move.specs.Causes.{Attempt, IsAbortDue, Story}
 use Rattle.vfm_top.specs.Call.{Call, attempt_in, bytes_read, report_read}
 use Rattle.vfm_top.specs.Sources.{IsShortReport, IsBadReport, most_of_report, status_of_audit}
-use Rattle.vfm_top.specs.Causes.{OfDescription, OfReport, OfBadReport, OfShownBytes, OfShownReport, OfShownBadReport, MoveCause, AuditCause, PathCause, CauseOf, AuditBrings, BringsOf, MoveBrings, HasCause, IsUnforeseen, IsExplained}
+use Rattle.vfm_top.specs.Causes.{OfDescription, OfReport, OfBadReport, OfShownBytes, OfShownReport, OfShownBadReport, LoadCause, MoveCause, AuditCause, PathCause, CauseOf, AuditBrings, BringsOf, MoveBrings, HasCause, IsUnforeseen, IsExplained}
 use Rattle.vfm_top.specs.Outcome.{nothing_made}
 
 -- of shown bytes one thing holds

@@ -1,25 +1,31 @@
 -- What a call that asks for a generated load came to, from what its migration did.
 use Rattle.std.proofs.Common.{◌≡◌, ◌⊎◌, ℕ, ◌<◌, ◌^◌, ◌++◌, List, [], reverse, Option, Some, None, IfSome, IsTrue, true, false, refl, sym, ◌∙◌, ap, inl, inr, subst}
-use Rattle.std.specs.Prelude.{is_some}
-use Rattle.std.proofs.lemmas.Bool.{and_parts}
+use Rattle.std.specs.Prelude.{is_some, unwrap_or, ◌&&◌, Bool}
+use Rattle.std.specs.Option.{IsSomeAnd}
+use Rattle.std.proofs.lemmas.List.{append-nil, reverse-reverse}
+use Rattle.std.proofs.lemmas.Bool.{and_parts, false≢true}
 use Rattle.vfm_types.specs.declared.desc.Desc.{Desc}
 use Rattle.vfm_types.specs.declared.entry.Entry.{Entry}
 use Rattle.vfm_types.specs.Machine.{Machine}
-use Rattle.vfm_types.specs.Phases.{is_joint}
+use Rattle.vfm_types.specs.Deliveries.{delivers, machine_of}
+use Rattle.vfm_types.specs.Requests.{plain}
+use Rattle.vfm_types.specs.Phases.{is_aborted, is_joint, is_last_begun}
+use Rattle.vfm_types.specs.declared.fault.LinkPlace.TheVariants.{Connect, Source, Destination, Control}
 use Rattle.vfm_types.specs.Serial.{serial}
 use Rattle.vfm_plain.specs.Ended.{has_ended}
 use Rattle.vfm_plain.specs.Legal.{IsLegal}
-use Rattle.vfm_plain.specs.Report.{Made, if_there, past, source_past}
+use Rattle.vfm_plain.specs.Report.{Made, if_there, journal, past, source_past}
 use Rattle.vfm_status.specs.declared.status.Status.{Status}
-use Rattle.vfm_status.specs.declared.status.Status.TheVariants.{Moved, NoMemory}
+use Rattle.vfm_status.specs.declared.status.Status.TheVariants.{Moved, Printed, BadWords, BadDescription, ReadFault, WriteFault, LinkFault, InDoubt, Differs, PathRefused, Broken, BadReport, StateDiffers, NoMemory}
 use Rattle.vfm_status.specs.StatusText.{status_line}
 use Rattle.vfm_laws.proofs.Enabled.{plain_exists}
 use Rattle.vfm_loads.specs.Generated.{generated}
 use Rattle.vfm_loads.proofs.LoadValid.{generated_valid}
 use Rattle.vfm_loads.proofs.AllOrders.{runs_end_alike}
 use Rattle.vfm_move.specs.Contact.{Contact, Untouched, WhereTold}
-use Rattle.vfm_move.specs.Carried.{IsCarried}
-use Rattle.vfm_move.specs.Headline.{IsSafeRun, EndsWith}
+use Rattle.vfm_move.specs.Carried.{IsCarried, verdict_of}
+use Rattle.vfm_streams.specs.Verdict.{Loads}
+use Rattle.vfm_move.specs.Headline.{IsOneRun, HasItsStates, IsSafeRun, EndsWith}
 use Rattle.vfm_move.specs.Move as migrating
 use Rattle.vfm_move.specs.Table.{Owner, TookOver, Neither, WentOn, HasParts, Parts, owner_at, parts_at, parts_of}
 use Rattle.vfm_migrate.specs.Migrations.{CameTo}
@@ -28,7 +34,8 @@ use Rattle.vfm_top.specs.declared.words.Form.TheVariants.{Load}
 use Rattle.vfm_top.specs.Call.{Call, attempt_in, IsPrinted}
 use Rattle.vfm_top.specs.Form.{form_of}
 use Rattle.vfm_top.specs.Load.{EndsLoad, IsLoad, PrintsLoad, RanOut, WasBrought}
-use Rattle.vfm_top.specs.Outcome.{last_machine}
+use Rattle.vfm_top.specs.Table.{Reached}
+use Rattle.vfm_top.specs.Causes.{LoadCause}
 use Rattle.vfm_top.specs.Text.{load_report, summary, summed_up}
 use Rattle.vfm_top.specs.Answers.{IsMoveOf, IsOutcome}
 
@@ -123,7 +130,7 @@ was_brought Moved made contact moved carried lines told =
         → {Q : Type 0} → Q → (m : Machine) × (joint ≡ Some m) × P m × Q
     some_and None P is q = absurd is
     some_and (Some m) P is q = (m, (refl, (is, q)))
-was_brought status made contact moved carried = absurd cc
+was_brought status made contact moved carried lines told = absurd cc
 
 -- where no source was made, memory ran out
 only_memory : (status : Status) (call : Call) (contact : Contact) → Reached status None contact
@@ -176,6 +183,7 @@ load_ends call N status (Some made) contact form small o printed answer =
       desc = is;
       move_of = rw answer moves;
       brought = λ moved. was_brought status made contact (sym answer ∙ moved) moves.carried;
-      load = rw answer sum.load;
-      printed = rw answer (subst (λ (t : List ℕ). IsPrinted t call.before.out call.now.out) shown printed);
+      load = subst (λ (s : Status). IsLoad (owner_at s) N made sum.machine) (sym answer) sum.load;
+      printed = subst (λ (s : Status). IsPrinted (status_line s ++ summary N (generated N) sum.machine) call.before.out call.now.out) (sym answer)
+          (subst (λ (t : List ℕ). IsPrinted t call.before.out call.now.out) shown printed);
     })

@@ -1,15 +1,24 @@
 -- What a call that asks for a move or an audit comes to, each way that it can end.
-use Rattle.std.proofs.Common.{◌≡◌, ℕ, List, [], take, drop, Option, Some, None, IfSome, Result, Ok, Err, IsOk, refl, sym, ◌∙◌, ap, ◌++◌, subst, ◌<◌, ◌≤◌, arith}
+use Rattle.std.proofs.Common.{◌≡◌, ℕ, List, [], take, drop, Option, Some, None, IfSome, Result, Ok, Err, IsOk, refl, sym, ◌∙◌, ap, ◌++◌, subst, ◌<◌, ◌≤◌, arith, ◌^◌, Contains}
 use Rattle.std.specs.Prelude.{IfErr, IfOk, option_map, unwrap_or}
 use Rattle.std.proofs.lemmas.List.{take-append-drop, append_cancel_left}
+use Rattle.std.proofs.lemmas.List.Elements.{Contains-append_left}
+use Rattle.vfm_types.specs.declared.desc.DevShape.{DevShape}
+use Rattle.vfm_types.specs.declared.entry.Entry.TheVariants.{Fail}
+use Rattle.vfm_types.specs.declared.state.MigState.{MigState}
 use Rattle.vfm_types.specs.declared.desc.Desc.{Desc}
 use Rattle.vfm_types.specs.declared.fault.DescFault.{DescFault}
 use Rattle.vfm_types.specs.declared.fault.DescFault.TheVariants.{NoMemory as Memory}
 use Rattle.vfm_types.specs.Desc.{device_count}
 use Rattle.vfm_types.specs.Valid.{IsValid}
+use Rattle.vfm_plain.specs.Legal.{IsLegal}
+use Rattle.vfm_loads.specs.Generated.{generated, load_shape}
+use Rattle.vfm_loads.proofs.Parts.{devices_are, shape_is}
+use Rattle.vfm_source.specs.Offers.{NeverFails}
+use Rattle.vfm_source.proofs.Fails.{from_reverse, in_reverse, never_fails}
 use Rattle.vfm_outside.specs.Told.{with_prepended}
-use Rattle.vfm_outside.specs.Tells.{SourceTells}
-use Rattle.vfm_plain.specs.Report.{Made}
+use Rattle.vfm_outside.specs.Tells.{SourceTells, WiresTell}
+use Rattle.vfm_plain.specs.Report.{Made, journal, past, source_past}
 use Rattle.vfm_desc.specs.Reading.{Gives}
 use Rattle.vfm_desc.specs.Described.{description_of}
 use Rattle.vfm_top.specs.declared.words.Form.{Form}
@@ -176,7 +185,7 @@ migrated pass old new call D migration over is moves =
       outcome = record {
         reached = reached_move migration.status (made_in migration) here.contact (attempt_in call pass) story here.explained.cause here.reached;
         explained = explained_move call pass story over.asked (described_well call D read) here.explained;
-        move_of = asked_move call pass D story migration.status migration.source migration.loaded migration.taken_over over.asked read.bytes
+        move_of = asked_move call pass D story migration.status migration.source migration.loaded migration.taken_over over.asked (rw over.asked read.bytes)
             here.source here.move_of;
         untouched = here.untouched;
         no_read_failed = λ other. (read.no_fault, rw over.unaudited refl);
