@@ -1,12 +1,10 @@
 -- The lines, one after another.
-use Rattle.std.proofs.Common.{ℕ, List, [], ◌∷◌, ◌++◌, decimal}
+use Rattle.std.proofs.Common.{[], ◌∷◌, ◌++◌, decimal}
 use Rattle.std.specs.Prelude.{codes}
 use Rattle.std.proofs.lemmas.Result.{err_from_is_err_and, MatchResult-weaker}
 use Rattle.hex.specs.Hex.{encode_lower}
-use Rattle.vfm_plain.specs.Shape.{all_done}
 use Rattle.vfm_plain.specs.StateText.{state_digest}
 use Rattle.vfm_plain.specs.Text.{line}
-use Rattle.vfm_loads.specs.Sums.{all_accepted, all_lost}
 use Rattle.vfm_top.proofs.summary.put_summary.Goals as goal
 
 pub returns-in_err-put_number : goal.returns-in_err-put_number
