@@ -124,12 +124,12 @@ was_brought : (status : Status) (made : Made) (contact : Contact) → status ≡
     → WhereTold contact (λ lines. IsCarried status made lines) → WasBrought contact made
 was_brought Moved made contact moved carried lines told =
     let here = carried lines told in
-    some_and made.joint (λ m. verdict_of made lines ≡ Loads m) here.state here.hands.heard
+    some_and made.joint (λ m. verdict_of made lines ≡ Loads m) here.state here.hands.heard.0 here.hands.heard.1
   where
     some_and : (joint : Option Machine) (P : Machine → Type 0) → IsSomeAnd joint P
-        → {Q : Type 0} → Q → (m : Machine) × (joint ≡ Some m) × P m × Q
-    some_and None P is q = absurd is
-    some_and (Some m) P is q = (m, (refl, (is, q)))
+        → {A B : Type 0} → A → B → (m : Machine) × (joint ≡ Some m) × P m × A × B
+    some_and None P is a b = absurd is
+    some_and (Some m) P is a b = (m, refl, is, a, b)
 was_brought status made contact moved carried lines told = absurd cc
 
 -- where no source was made, memory ran out

@@ -1,5 +1,5 @@
 -- Either kind of words is answered as it is to be.
-use Rattle.std.proofs.Common.{refl, sym, ◌∙◌, ap}
+use Rattle.std.proofs.Common.{arith, refl, sym, ◌∙◌, ap}
 use Rattle.vfm_top.specs.Outcome.{made_of, status_of}
 use Rattle.vfm_top.proofs.Promises.{asked_load, asked_run, with_load, with_move}
 use Rattle.vfm_top.proofs.call.run.Goals as goal

@@ -17,7 +17,7 @@ pub returns-in-Some : goal.returns-in-Some
 returns-in-Some g c =
     let migration = c.args.migration in
     let status = migration.status in
-    let source = c.in-Some.source.now in
+    let source = c.in-Some.source in
     let shown =
         ap (λ (o : Option Machine). status_line status ++ if_there (summary c.args.number source.core.desc) o)
         (summed_same (owner_at status) status refl source migration.loaded migration.taken_over) in
