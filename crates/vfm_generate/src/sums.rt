@@ -1,11 +1,11 @@
 //! The sums over all devices that a summary of a load shows.
 
-ghost use Rattle.std.specs.Prelude.{◌≡◌};
-ghost use Rattle.vfm_types.specs.Valid.{IsValid};
+ghost use Rattle.std.specs.Prelude.{◌≡◌, ◌<◌};
+ghost use Rattle.vfm_types.specs.Desc.{device_count};
 ghost use Rattle.vfm_plain.specs.Shape.{HasShape, all_done};
 ghost use Rattle.vfm_loads.specs.Sums.{all_accepted, all_lost};
 
-use vfm_plain::Plain;
+use vfm_text::MachineView;
 use vfm_types::{Desc, DeviceId};
 
 /// How many requests all devices of a machine together accepted, did and lost.
@@ -18,12 +18,12 @@ pub struct Sums {
 
 impl Sums {
     /// The sums of a machine with the devices of this description.
-    pub fn of(desc: &Desc, plain: &Plain) -> Sums
-        requires valid { IsValid desc.now }
-        requires shape { HasShape desc.now plain.now }
-        ensures accepted { result.accepted ≡ all_accepted plain.now }
-        ensures done { result.done ≡ all_done plain.now }
-        ensures lost { result.lost ≡ all_lost plain.now }
+    pub fn of<M: MachineView>(desc: &Desc, machine: &M) -> Sums
+        requires few { device_count desc.now < 256 }
+        requires shape { HasShape desc.now (M.machine machine.now) }
+        ensures accepted { result.accepted ≡ all_accepted (M.machine machine.now) }
+        ensures done { result.done ≡ all_done (M.machine machine.now) }
+        ensures lost { result.lost ≡ all_lost (M.machine machine.now) }
     {
         let mut sums = Sums {
             accepted: 0,
@@ -31,7 +31,7 @@ impl Sums {
             lost: 0,
         };
         for d in 0..desc.devices.len() {
-            let (accepted, done, lost) = plain.counts(DeviceId(d as u8));
+            let (accepted, done, lost) = machine.counts(DeviceId(d as u8));
             sums.accepted += u64::from(accepted);
             sums.done += u64::from(done);
             sums.lost += u64::from(lost);

@@ -22,6 +22,7 @@ vfmig: migrates a described machine with its devices, and prints what happened
 
 vfmig run FILE             runs the machine that FILE describes, moves it and prints the report
 vfmig run FILE abort N     the same, but the source gives up once pass N, 1 to 9, has ended
+vfmig load N               moves the machine of generated load N, 0 to 4294967295, and prints its sums and digest
 vfmig audit FILE REPORT    audits REPORT as the report of a run of the machine that FILE describes
 vfmig paths FROM TO FLAGS  prints the path between two device states, such as RUNNING and STOP_COPY,
                            for a device with FLAGS 1, 3, 5 or 7

@@ -1,5 +1,5 @@
 -- A cause explains its status: nothing else that can be seen brings another.
-use Rattle.std.proofs.Common.{◌≡◌, ◌⊎◌, ℕ, List, Option, Some, None, IfSome, Result, Ok, Err, IsOk, refl, sym, ◌∙◌, ap, inl, inr, subst, length, ◌<◌, ◌≤◌, arith}
+use Rattle.std.proofs.Common.{◌≡◌, ◌⊎◌, ℕ, List, Option, Some, None, IfSome, Result, Ok, Err, IsOk, refl, sym, ◌∙◌, ap, inl, inr, subst, length, ◌<◌, ◌≤◌, arith, Contains}
 use Rattle.std.specs.Option.{IsSomeAnd}
 use Rattle.vfm_types.specs.declared.desc.Desc.{Desc}
 use Rattle.vfm_types.specs.declared.fault.DescFault.{DescFault}
@@ -7,7 +7,9 @@ use Rattle.vfm_types.specs.declared.entry.Rule.{Rule}
 use Rattle.vfm_types.specs.declared.state.PathFault.{PathFault}
 use Rattle.vfm_types.specs.declared.state.MigState.{MigState}
 use Rattle.vfm_types.specs.Paths.{path_of}
-use Rattle.vfm_plain.specs.Report.{Made, journal}
+use Rattle.vfm_types.specs.declared.entry.Entry.TheVariants.{Fail}
+use Rattle.vfm_outside.specs.Links.{ToldEnds}
+use Rattle.vfm_plain.specs.Report.{Made, journal, source_past}
 use Rattle.vfm_desc.specs.Described.{description_of}
 use Rattle.vfm_report.specs.Reports.{IsReport, IsBadLine}
 use Rattle.vfm_report.proofs.Whole.{clear, one-bad-line, one-report}
@@ -17,17 +19,17 @@ use Rattle.vfm_audit.proofs.Audits.{one_result}
 use Rattle.vfm_audit.specs.declared.fault.ReportFault.{ReportFault}
 use Rattle.vfm_audit.specs.declared.fault.ReportFault.TheVariants.{Broken as RuleBroken, StateDiffers as OtherState, NoMemory as OutOfMemory}
 use Rattle.vfm_top.specs.declared.words.Form.{Form}
-use Rattle.vfm_top.specs.declared.words.Form.TheVariants.{Run, Audit, Paths}
+use Rattle.vfm_top.specs.declared.words.Form.TheVariants.{Run, Load, Audit, Paths}
 use Rattle.vfm_status.specs.declared.status.Status.{Status}
 use Rattle.vfm_status.specs.declared.status.Doubt.TheVariants.{NoGo, Other}
 use Rattle.vfm_status.specs.declared.status.Status.TheVariants.{Printed, BadDescription, ReadFault, NoMemory, PathRefused, Broken, BadReport, StateDiffers, Unconfirmed, InDoubt, Differs, Aborted, ArcFailed, NoControl}
 use Rattle.vfm_top.specs.Form.{form_of}
-use Rattle.vfm_move.specs.Contact.{AreTold, Untouched}
+use Rattle.vfm_move.specs.Contact.{AreTold, Contact, Untouched, Failed, Linked, IsLinkedAnd}
 use Rattle.vfm_move.specs.Causes as migrating
-use Rattle.vfm_move.specs.Causes.{Attempt, Story}
+use Rattle.vfm_move.specs.Causes.{Attempt, IsAbortDue, Story}
 use Rattle.vfm_top.specs.Call.{Call, attempt_in, bytes_read, report_read}
 use Rattle.vfm_top.specs.Sources.{IsShortReport, IsBadReport, most_of_report, status_of_audit}
-use Rattle.vfm_top.specs.Causes.{OfDescription, OfReport, OfBadReport, OfShownBytes, OfShownReport, OfShownBadReport, MoveCause, AuditCause, PathCause, CauseOf, AuditBrings, BringsOf, MoveBrings, HasCause, IsUnforeseen, IsExplained}
+use Rattle.vfm_top.specs.Causes.{OfDescription, OfReport, OfBadReport, OfShownBytes, OfShownReport, OfShownBadReport, LoadCause, MoveCause, AuditCause, PathCause, CauseOf, AuditBrings, BringsOf, MoveBrings, HasCause, IsUnforeseen, IsExplained}
 use Rattle.vfm_top.specs.Outcome.{nothing_made}
 
 -- of shown bytes one thing holds
@@ -216,6 +218,7 @@ exact : (form : Option Form) (call : Call) (story : Story) (status brought : Sta
     → BringsOf form brought call → (status ≡ brought) ⊎ IsUnforeseen status
 exact None call story status brought c b = inl (c ∙ sym b)
 exact (Some (Run pass)) call story status brought c b = exact_run pass call story status brought c b
+exact (Some (Load number)) call story status brought c b = absurd b
 exact (Some Audit) call story status brought c b = exact_audit call status brought c b
 exact (Some (Paths from to flags)) call story status brought c b = exact_path (path_of from to flags) status brought c b
 
@@ -232,6 +235,7 @@ nothing_brought attempt status brought b = absurd b
 
 nothing_moved : (form : Option Form) (call : Call) (status brought : Status) → MoveBrings form brought call (nothing_made status) → ⊥
 nothing_moved (Some (Run pass)) call status brought b = nothing_brought (attempt_in call pass) status brought b
+nothing_moved (Some (Load number)) call status brought b = nothing_brought (attempt_in call 0) status brought b
 nothing_moved form call status brought b = absurd b
 
 -- a call at whose end nothing was made
@@ -248,6 +252,47 @@ pub explained_move : (call : Call) (pass : ℕ) (story : Story) → form_of call
     → OfDescription call (λ answer. IsOk answer) → migrating.IsExplained (attempt_in call pass) story → IsExplained call story
 explained_move call pass story form described move =
     let cause : CauseOf (form_of call.words) story.status call story = rw form (move_cause pass story.status call story described move.cause) in
+    record {
+      cause = cause;
+      exact = λ brought. exact (form_of call.words) call story story.status brought cause;
+      exact_move = λ brought b. move.exact brought (rw form at b);
+    }
+
+-- no arc failed in what was made
+abbrev pub HasNoFail : Story → Type 0
+HasNoFail story = IfSome story.made (λ made. (d : ℕ) (to : MigState) → Contains (source_past made) (Fail d to) → ⊥)
+
+no_run : (P : Made → ToldEnds → Type 0) (made : Option Made) (contact : Contact) → IfSome made (λ made. (ends : ToldEnds) → P made ends → ⊥)
+    → IsSomeAnd made (λ made. IsLinkedAnd contact (P made)) → ⊥
+no_run P None contact none run = absurd run
+no_run P (Some made) Untouched none run = absurd run
+no_run P (Some made) Failed none run = absurd run
+no_run P (Some made) (Linked ends) none run = none ends run
+
+all_some : {X : Type 0} (P : X → Type 0) (x : Option X) → ((x : X) → P x) → IfSome x P
+all_some P None all = tt
+all_some P (Some x) all = all x
+
+-- what a migration of a generated load comes to has its cause: its source isn't to give up, and no arc fails
+load_cause : (status : Status) (call : Call) (story : Story) → HasNoFail story → migrating.HasCause status (attempt_in call 0) story
+    → LoadCause status call story
+load_cause (ArcFailed d to) call story none cause =
+    no_run (λ made ends. Contains (source_past made) (Fail d to)) story.made story.contact (each story.made none) cause
+  where
+    each : (made : Option Made) → IfSome made (λ made. (d : ℕ) (to : MigState) → Contains (source_past made) (Fail d to) → ⊥)
+        → IfSome made (λ made. (ends : ToldEnds) → Contains (source_past made) (Fail d to) → ⊥)
+    each None none = tt
+    each (Some made) none = λ ends. none d to
+load_cause (Aborted pass) call story none cause =
+    no_run (λ made ends. IsAbortDue (attempt_in call 0) pass made) story.made story.contact
+    (all_some _ story.made (λ made ends due. omega (arith, due.some, due.asked))) cause
+load_cause status call story none cause = cause
+
+-- a call that came to what a migration of a generated load did
+pub explained_load : (call : Call) (number : ℕ) (story : Story) → form_of call.words ≡ Some (Load number) → HasNoFail story
+    → migrating.IsExplained (attempt_in call 0) story → IsExplained call story
+explained_load call number story form none move =
+    let cause : CauseOf (form_of call.words) story.status call story = rw form (load_cause story.status call story none move.cause) in
     record {
       cause = cause;
       exact = λ brought. exact (form_of call.words) call story story.status brought cause;

@@ -1,6 +1,7 @@
 pub mod Causes
 pub mod Forms
 pub mod Outcomes
+pub mod Loads
 pub mod Audits
 pub mod Paths
 pub mod Parts

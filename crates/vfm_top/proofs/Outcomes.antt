@@ -1,19 +1,28 @@
 -- What a call that asks for a move or an audit comes to, each way that it can end.
-use Rattle.std.proofs.Common.{◌≡◌, ℕ, List, [], take, drop, Option, Some, None, IfSome, Result, Ok, Err, IsOk, refl, sym, ◌∙◌, ap, ◌++◌, subst, ◌<◌, ◌≤◌, arith}
+use Rattle.std.proofs.Common.{◌≡◌, ℕ, List, [], take, drop, Option, Some, None, IfSome, Result, Ok, Err, IsOk, refl, sym, ◌∙◌, ap, ◌++◌, subst, ◌<◌, ◌≤◌, arith, ◌^◌, Contains}
 use Rattle.std.specs.Prelude.{IfErr, IfOk, option_map, unwrap_or}
 use Rattle.std.proofs.lemmas.List.{take-append-drop, append_cancel_left}
+use Rattle.std.proofs.lemmas.List.Elements.{Contains-append_left}
+use Rattle.vfm_types.specs.declared.desc.DevShape.{DevShape}
+use Rattle.vfm_types.specs.declared.entry.Entry.TheVariants.{Fail}
+use Rattle.vfm_types.specs.declared.state.MigState.{MigState}
 use Rattle.vfm_types.specs.declared.desc.Desc.{Desc}
 use Rattle.vfm_types.specs.declared.fault.DescFault.{DescFault}
 use Rattle.vfm_types.specs.declared.fault.DescFault.TheVariants.{NoMemory as Memory}
 use Rattle.vfm_types.specs.Desc.{device_count}
 use Rattle.vfm_types.specs.Valid.{IsValid}
+use Rattle.vfm_plain.specs.Legal.{IsLegal}
+use Rattle.vfm_loads.specs.Generated.{generated, load_shape}
+use Rattle.vfm_loads.proofs.Parts.{devices_are, shape_is}
+use Rattle.vfm_source.specs.Offers.{NeverFails}
+use Rattle.vfm_source.proofs.Fails.{from_reverse, in_reverse, never_fails}
 use Rattle.vfm_outside.specs.Told.{with_prepended}
-use Rattle.vfm_outside.specs.Tells.{SourceTells}
-use Rattle.vfm_plain.specs.Report.{Made}
+use Rattle.vfm_outside.specs.Tells.{SourceTells, WiresTell}
+use Rattle.vfm_plain.specs.Report.{Made, journal, past, source_past}
 use Rattle.vfm_desc.specs.Reading.{Gives}
 use Rattle.vfm_desc.specs.Described.{description_of}
 use Rattle.vfm_top.specs.declared.words.Form.{Form}
-use Rattle.vfm_top.specs.declared.words.Form.TheVariants.{Run}
+use Rattle.vfm_top.specs.declared.words.Form.TheVariants.{Run, Load}
 use Rattle.vfm_status.specs.declared.status.Status.{Status}
 use Rattle.vfm_status.specs.declared.status.Status.TheVariants.{Printed, BadWords, BadDescription, ReadFault, WriteFault, PathRefused, Broken, BadReport, StateDiffers, NoMemory}
 use Rattle.vfm_move.specs.Contact.{Contact, Untouched}
@@ -30,9 +39,9 @@ use Rattle.vfm_top.specs.Causes.{CauseOf, HasCause, IsAsked, MoveCause, OfDescri
 use Rattle.vfm_top.specs.Form.{form_of}
 use Rattle.vfm_top.specs.Table.{Reached}
 use Rattle.vfm_top.specs.Answers.{IsMoveOf}
-use Rattle.vfm_top.specs.Outcome.{HasOutcome, IsCallOver, IsOfOneMachine, IsPrintableMigration, MoveTells, nothing_made}
+use Rattle.vfm_top.specs.Outcome.{HasOutcome, IsCallOver, IsLoadOver, IsOfOneMachine, IsPrintableMigration, MoveTells, nothing_made}
 use Rattle.vfm_top.specs.Sources.{status_of, IsRefusal, IsDescribed, IsUndescribed, IsBadReport, IsNoReport, IsUnreported}
-use Rattle.vfm_top.proofs.Causes.{explained, explained_move}
+use Rattle.vfm_top.proofs.Causes.{HasNoFail, explained, explained_load, explained_move}
 
 -- ---- reading
 
@@ -176,7 +185,7 @@ migrated pass old new call D migration over is moves =
       outcome = record {
         reached = reached_move migration.status (made_in migration) here.contact (attempt_in call pass) story here.explained.cause here.reached;
         explained = explained_move call pass story over.asked (described_well call D read) here.explained;
-        move_of = asked_move call pass D story migration.status migration.source migration.loaded migration.taken_over over.asked read.bytes
+        move_of = asked_move call pass D story migration.status migration.source migration.loaded migration.taken_over over.asked (rw over.asked read.bytes)
             here.source here.move_of;
         untouched = here.untouched;
         no_read_failed = λ other. (read.no_fault, rw over.unaudited refl);
@@ -210,3 +219,71 @@ printable attempt D migration valid moves =
           loaded = same_desc (λ (staged : StagedState). staged.core.desc) loaded source.core.desc same.desc staged;
           taken_over = same_desc (λ (core : CoreState). core.desc) taken_over source.core.desc same.desc taken;
         }
+
+-- ---- a generated load
+
+never_fails_load : (N : ℕ) → NeverFails (generated N)
+unfolding load_shape
+never_fails_load N d inside =
+    ap (λ (shape : DevShape). shape.fails) (shape_is N d (subst (λ (k : ℕ). d < k) (devices_are N) inside))
+
+-- in a run of a load no arc fails
+no_fail : (N : ℕ) (made : Made) → made.desc ≡ generated N → IsLegal made.desc (past made) → (d : ℕ) (to : MigState)
+    → Contains (source_past made) (Fail d to) → ⊥
+no_fail N made is legal d to found =
+    let all : Contains (journal made) (Fail d to) =
+    Contains-append_left made.source (unwrap_or made.destination []) (Fail d to) (from_reverse made.source (Fail d to) found) in
+    never_fails (generated N) (past made) (subst (λ (D : Desc). IsLegal D (past made)) is legal) (never_fails_load N) d to
+    (in_reverse (journal made) (Fail d to) all)
+
+none_fails : (N : ℕ) (D : Desc) (attempt : Attempt) (story : Story) (status : Status) (source : Option MoverState) (loaded : Option StagedState)
+    (taken_over : Option CoreState) → D ≡ generated N → IfSome source (λ source. IsSourceOf D source)
+    → IfSome (option_map (λ source. made_by status source loaded taken_over) source) (λ made. migrating_move.IsMoveOf attempt story made)
+    → IfSome (option_map (λ source. made_by status source loaded taken_over) source)
+    (λ made. (d : ℕ) (to : MigState) → Contains (source_past made) (Fail d to) → ⊥)
+none_fails N D attempt story status None loaded taken_over is same moves = tt
+none_fails N D attempt story status (Some source) loaded taken_over is same moves =
+    no_fail N (made_by status source loaded taken_over) (same.desc ∙ is) moves.safe.run.legal
+
+asked_load : (call : Call) (N : ℕ) (D : Desc) (story : Story) (status : Status) (source : Option MoverState) (loaded : Option StagedState)
+    (taken_over : Option CoreState) → form_of call.words ≡ Some (Load N) → D ≡ generated N → IfSome source (λ source. IsSourceOf D source)
+    → IfSome (option_map (λ source. made_by status source loaded taken_over) source)
+    (λ made. migrating_move.IsMoveOf (attempt_in call 0) story made)
+    → IfSome (option_map (λ source. made_by status source loaded taken_over) source) (λ made. IsMoveOf call story made)
+asked_load call N D story status None loaded taken_over form is same moves = tt
+asked_load call N D story status (Some source) loaded taken_over form is same moves =
+    record { asked = rw form (same.desc ∙ is); move_of = rw form moves }
+
+-- a load that was generated, and migrated or not
+pub load_migrated : (N : ℕ) (old new : WiresTell) (call : Call) (D : Desc) (migration : Migration) → IsLoadOver N old new call
+    → D ≡ generated N → IsMigrated (attempt_of 0 old new) D migration → HasOutcome call migration.status (made_in migration)
+load_migrated N old new call D migration over is moves =
+    let here : IsMigrated (attempt_in call 0) D migration = rw (over.wires_before, over.wires_now) moves in
+    let story = story_of migration here.contact in
+    record {
+      contact = here.contact;
+      outcome = record {
+        reached = reached_move migration.status (made_in migration) here.contact (attempt_in call 0) story here.explained.cause here.reached;
+        explained = explained_load call N story over.asked
+            (none_fails N D (attempt_in call 0) story migration.status migration.source migration.loaded migration.taken_over is here.source here.move_of)
+            here.explained;
+        move_of = asked_load call N D story migration.status migration.source migration.loaded migration.taken_over over.asked is
+            here.source here.move_of;
+        untouched = here.untouched;
+        no_read_failed = λ other. (rw over.unread refl, rw over.unaudited refl);
+      };
+    }
+
+-- memory ran out before it was generated
+pub load_refused : (N : ℕ) (old new : WiresTell) (call : Call) → IsLoadOver N old new call → new ≡ old → HasOutcome call NoMemory None
+load_refused N old new call over same =
+    record {
+      contact = Untouched;
+      outcome = record {
+        reached = tt;
+        explained = explained call NoMemory (cause_of call (Some (Load N)) (nothing_made NoMemory) over.asked tt);
+        move_of = tt;
+        untouched = λ none. rw (over.wires_before, over.wires_now) same;
+        no_read_failed = λ other. (rw over.unread refl, rw over.unaudited refl);
+      };
+    }

@@ -1,5 +1,5 @@
 -- The parts of a report that cores lend.
-use Rattle.std.proofs.Common.{◌≡◌, List, Option, Some, None, IfSome, refl, sym, ◌∙◌, ap, subst, true, IsTrue, IsFalse}
+use Rattle.std.proofs.Common.{◌≡◌, List, Option, Some, None, IfSome, refl, sym, ◌∙◌, ap, subst, true, false, IsTrue, IsFalse}
 use Rattle.std.specs.Prelude.{IfNone, option_map, unwrap_or, if◌then◌else◌}
 use Rattle.vfm_types.specs.declared.desc.Desc.{Desc}
 use Rattle.vfm_types.specs.declared.entry.Entry.{Entry}
@@ -12,8 +12,14 @@ use Rattle.vfm_core.specs.CoreState.{CoreState, FitsDesc}
 use Rattle.vfm_core.specs.Machines.{machine_in}
 use Rattle.vfm_core.proofs.Machines.{shape_in}
 use Rattle.vfm_move.specs.Move.{joint_in}
-use Rattle.vfm_move.specs.Table.{Owner, TookOver, Neither, WentOn}
-use Rattle.vfm_migrate.specs.Migrations.{last_core}
+use Rattle.vfm_move.specs.Table.{Owner, TookOver, Neither, WentOn, owner_at}
+use Rattle.vfm_source.specs.Moving.{past_in}
+use Rattle.vfm_source.specs.Source.{MoverState}
+use Rattle.vfm_dest.specs.StagedCores.{StagedState}
+use Rattle.vfm_status.specs.declared.status.Status.{Status}
+use Rattle.vfm_top.specs.Outcome.{is_neither, last_machine}
+use Rattle.vfm_top.specs.Text.{summed_up}
+use Rattle.vfm_migrate.specs.Migrations.{last_core, made_by}
 
 -- the same cores have the same machines
 pub machines_same : {X Y : Type 0} (f : X → CoreState) (g : Y → CoreState) (a : Option X) (b : Option Y) → option_map f a ≡ option_map g b
@@ -68,3 +74,23 @@ same_made a b desc source joint loaded destination final = e
       final = a.final;
     } ≡ b
     e = rw (desc, source, joint, loaded, destination, final) refl
+
+-- what is summed up of what was made
+pub summed_same : (owner : Owner) (status : Status) → owner_at status ≡ owner → (source : MoverState) (loaded : Option StagedState) (taken : Option CoreState)
+    → last_machine owner source taken ≡ summed_up owner (made_by status source loaded taken)
+summed_same TookOver status is source loaded taken = rw is refl
+summed_same Neither status is source loaded taken = refl
+summed_same WentOn status is source loaded taken = rw is refl
+
+-- where neither end runs, and where one does
+pub last_joint : (owner : Owner) (source : MoverState) (taken : Option CoreState) → is_neither owner ≡ true
+    → last_machine owner source taken ≡ joint_in source.core.desc (past_in source.core)
+last_joint Neither source taken is = refl
+last_joint TookOver source taken is = absurd cc
+last_joint WentOn source taken is = absurd cc
+
+pub last_final : (owner : Owner) (source : MoverState) (taken : Option CoreState) → is_neither owner ≡ false
+    → last_machine owner source taken ≡ option_map (λ core. machine_in core.world) (last_core owner source.core taken)
+last_final Neither source taken is = absurd cc
+last_final TookOver source taken is = refl
+last_final WentOn source taken is = refl

@@ -1,5 +1,6 @@
 -- What the answers of a call mean to a caller, from what the call does.
-use Rattle.std.proofs.Common.{◌≡◌, ◌⊎◌, ℕ, List, [], length, Option, Some, None, IfSome, IsTrue, IsFalse, IsOk, Result, Ok, Err, refl, sym, ◌∙◌, ap, inl, inr, arith, subst, Bool, true}
+use Rattle.std.proofs.Common.{◌≡◌, ◌⊎◌, ℕ, List, [], length, Option, Some, None, IfSome, IsTrue, IsFalse, IsOk, Result, Ok, Err, refl, sym, ◌∙◌, ap, inl, inr, arith, subst, Bool, true, ◌<◌, ◌^◌}
+use Rattle.std.specs.Prelude.{unwrap_or}
 use Rattle.vfm_types.specs.declared.fault.LinkPlace.{LinkPlace}
 use Rattle.vfm_types.specs.declared.fault.LinkPlace.TheVariants.{Connect}
 use Rattle.vfm_types.specs.declared.state.MigState.{MigState}
@@ -16,7 +17,7 @@ use Rattle.vfm_report.specs.Printed.{IsPrinted as IsPrintedMade}
 use Rattle.vfm_audit.specs.Audited.{IsAuditOf, IsJointState}
 use Rattle.vfm_audit.proofs.Audits.{clean_run, legal_run}
 use Rattle.vfm_top.specs.declared.words.Form.{Form}
-use Rattle.vfm_top.specs.declared.words.Form.TheVariants.{Run, Audit, Paths}
+use Rattle.vfm_top.specs.declared.words.Form.TheVariants.{Run, Load, Audit, Paths}
 use Rattle.vfm_status.specs.declared.status.Status.{Status}
 use Rattle.vfm_status.specs.declared.status.Status.TheVariants.{Moved, Printed, BadWords, BadDescription, ReadFault, WriteFault, LinkFault, Refused, Unconfirmed, InDoubt, Differs, Aborted, ArcFailed, NoControl, PathRefused, Broken, BadReport, StateDiffers, NoMemory}
 use Rattle.vfm_status.specs.declared.status.Doubt.{Doubt}
@@ -26,13 +27,16 @@ use Rattle.vfm_move.specs.Causes.{Story}
 use Rattle.vfm_move.specs.Table.{Owner, WentOn, owner_at}
 use Rattle.vfm_migrate.specs.Migrations.{CameTo}
 use Rattle.vfm_top.specs.Table.{Reached, ReachedIf, is_of_move}
-use Rattle.vfm_top.specs.Call.{Call, read_limit, report_limit, HasReadFault, HasReportFault, HasWriteFault, IsPrefixRead}
-use Rattle.vfm_top.specs.Text.{text, report, audit_text, path_text, path_status}
-use Rattle.vfm_top.specs.Causes.{is_run, is_audit, pass_of, reads_description, MoveCause, AuditCause, PathCause, CauseOf, BringsOf, HasCause, IsUnforeseen, OfReport, OfShownBytes}
+use Rattle.vfm_top.specs.Call.{Call, read_limit, report_limit, HasReadFault, HasReportFault, HasWriteFault, IsPrefixRead, IsPrinted}
+use Rattle.vfm_top.specs.Text.{moved_text, text, load_report, report, audit_text, path_text, path_status}
+use Rattle.vfm_top.specs.Causes.{is_run, is_audit, load_of, pass_of, reads_description, MoveCause, AuditCause, PathCause, CauseOf, BringsOf, HasCause, IsUnforeseen, OfReport, OfShownBytes}
 use Rattle.vfm_top.specs.Outcome.{HasOutcome, nothing_made}
-use Rattle.vfm_top.specs.Answers.{is_refusal, IsCounted, IsLegalReport, IsOutcome, IsPrinted, Ends, Answers, HasNoFault, LeavesRest, LeavesMachine, Means, Promises}
+use Rattle.vfm_top.specs.Answers.{is_refusal, IsCounted, IsLegalReport, IsOutcome, Ends, Answers, HasNoFault, LeavesRest, LeavesMachine, Means, Promises}
 use Rattle.vfm_top.proofs.Causes.{explained, machine_or_refusal}
+use Rattle.vfm_top.specs.Load.{EndsLoad, RanOut}
 use Rattle.vfm_top.proofs.Outcomes.{cause_of}
+use Rattle.vfm_top.proofs.Loads.{load_ends}
+use Rattle.std.proofs.lemmas.Option.{none-some}
 
 -- where no failed write was counted, the call answers what it came to, and the text of that was printed
 by_end : (call : Call) (status : Status) (printed : List ℕ) → Ends call.answer status printed call.before.out call.now.out
@@ -86,9 +90,10 @@ no_words status made contact reached is = absurd cc
 -- where a source was made and memory didn't run out, the words ask for a move, so that its report is printed
 report_of : (form : Option Form) (call : Call) (status : Status) (made : Made) (contact : Contact) (n : ℕ) → Reached status (Some made) contact
     → (status ≡ NoMemory → ⊥) → CauseOf form status call (record { status = status; made = Some made; contact = contact })
-    → text form status (Some made) n ≡ report status (Some made)
+    → text form status (Some made) n ≡ moved_text form status (Some made)
 report_of None call status made contact n reached other cause = absurd (no_words status made contact reached cause)
 report_of (Some (Run pass)) call status made contact n reached other cause = refl
+report_of (Some (Load number)) call status made contact n reached other cause = refl
 report_of (Some Audit) call status made contact n reached other cause = absurd (no_audit call status made contact reached other cause)
 report_of (Some (Paths from to flags)) call status made contact n reached other cause = absurd (no_path (path_of from to flags) status made contact reached cause)
 
@@ -188,6 +193,7 @@ no_form (Some form) call story none cause = absurd cc
 failed : (form : Option Form) (call : Call) (story : Story) → CauseOf form ReadFault call story → HasReadFault call ⊎ HasReportFault call
 failed None call story cause = absurd cc
 failed (Some (Run pass)) call story cause = inl cause
+failed (Some (Load number)) call story cause = absurd cause
 failed (Some Audit) call story (inl read) = inl read
 failed (Some Audit) call story (inr report) = inr report.counted
 failed (Some (Paths from to flags)) call story cause = absurd cause
@@ -239,6 +245,7 @@ legal_report made valid printed found =
 legal_audit : (form : Option Form) (call : Call) (story : Story) → form ≡ Some Audit → CauseOf form Printed call story → OfReport call IsLegalReport
 legal_audit None call story is cause = absurd cc
 legal_audit (Some (Run pass)) call story is cause = absurd cc
+legal_audit (Some (Load number)) call story is cause = absurd cc
 legal_audit (Some Audit) call story is cause =
     record {
       made = cause.made;
@@ -254,6 +261,7 @@ legal_audit (Some (Paths from to flags)) call story is cause = absurd cc
 no_write : (form : Option Form) (call : Call) (story : Story) → CauseOf form WriteFault call story → ⊥
 no_write None call story cause = absurd cc
 no_write (Some (Run pass)) call story cause = cause.1
+no_write (Some (Load number)) call story cause = cause
 no_write (Some Audit) call story cause = cause
 no_write (Some (Paths from to flags)) call story cause = cause
 
@@ -263,8 +271,12 @@ unwritten call story printed cause (inl e) is =
     absurd (no_write (form_of call.words) call story (subst (λ (s : Status). CauseOf (form_of call.words) s call story) (sym e.0 ∙ is) cause))
 unwritten call story printed cause (inr e) is = e.1.rose
 
-means : (call : Call) → Answers call → Means call
-means call a =
+-- what is to be said of a generated load
+abbrev pub LoadsOf : Call → Type 0
+LoadsOf call = (number : ℕ) → form_of call.words ≡ Some (Load number) → (HasWriteFault call → ⊥) → EndsLoad number call ⊎ RanOut call
+
+means : (call : Call) → Answers call → LoadsOf call → Means call
+means call a loads =
     record {
       moved = λ is. left_at call a Moved is (λ same. cc) refl (λ same. cc);
       kept = kept call a;
@@ -277,6 +289,7 @@ means call a =
           (brought_or (form_of call.words) call a.story a.story.status (BadDescription fault) a.outcome.explained.cause
           (move_failed (form_of call.words) call pass a.story form unread)
           (a.outcome.explained.exact (BadDescription fault) (brings_run (form_of call.words) call pass (BadDescription fault) form bytes)));
+      loads = loads;
       legal = λ form is.
           let p = was_printed call Printed a.story.status _ is (λ same. cc) a.ends in
           legal_audit (form_of call.words) call a.story form
@@ -290,8 +303,12 @@ means call a =
       write_fault = unwritten call a.story _ a.outcome.explained.cause a.ends;
     }
 
-pub promises : (call : Call) → Answers call → LeavesRest call → Promises call
-promises call a rest = record { answers = a; leaves = rest; means = means call a }
+promises : (call : Call) → Answers call → LeavesRest call → LoadsOf call → Promises call
+promises call a rest loads = record { answers = a; leaves = rest; means = means call a loads }
+
+-- words that ask for no load
+no_load : (call : Call) (form : Option Form) → form_of call.words ≡ form → load_of form ≡ None → LoadsOf call
+no_load call form is none = λ number load quiet. absurd (none-some number (sym none ∙ ap load_of (sym is ∙ load)))
 
 -- ---- each form
 
@@ -335,6 +352,7 @@ without_form call form desc rest wires ends =
       ends = rw form ends;
     })
     (untouched call desc rest wires)
+    (no_load call None form refl)
 
 -- why a path is answered as it is
 path_cause : (answer : Result (List MigState) PathFault) → PathCause answer (path_status answer)
@@ -363,13 +381,15 @@ with_path call from to flags form desc rest wires ends =
       ends = rw form ends;
     })
     (untouched call desc rest wires)
+    (no_load call (Some (Paths from to flags)) form refl)
 
 -- words that ask for a move, with the pass that they name
-pub asked_run : (form : Option Form) → IsTrue (is_run form) → (pass : ℕ) → pass ≡ pass_of form → form ≡ Some (Run pass)
-asked_run None run pass named = absurd cc
-asked_run (Some (Run named)) run pass is = rw is refl
-asked_run (Some Audit) run pass named = absurd cc
-asked_run (Some (Paths from to flags)) run pass named = absurd cc
+pub asked_run : (form : Option Form) → IsTrue (is_run form) → (pass : ℕ) → pass ≡ pass_of form → load_of form ≡ None → form ≡ Some (Run pass)
+asked_run None run pass named unloaded = absurd cc
+asked_run (Some (Run named)) run pass is unloaded = rw is refl
+asked_run (Some (Load number)) run pass named unloaded = absurd cc
+asked_run (Some Audit) run pass named unloaded = absurd cc
+asked_run (Some (Paths from to flags)) run pass named unloaded = absurd cc
 
 -- words that ask for a move read a description, and no report
 pub with_move : (call : Call) (pass : ℕ) (status : Status) (made : Option Made) → form_of call.words ≡ Some (Run pass) → HasOutcome call status made
@@ -391,6 +411,7 @@ with_move call pass status made form has read rest ends =
       read = read;
       report_read = none_read report_limit call.before.report call.now.report rest;
     })
+    (no_load call (Some (Run pass)) form refl)
   where
     asks_no_move : (form : Option Form) → form ≡ Some (Run pass) → IsFalse (is_run form) → ⊥
     asks_no_move form is other = cc
@@ -413,9 +434,47 @@ with_audit call status entries form outcome counted read report_read wires ends 
       read = read;
       report_read = report_read;
     })
+    (no_load call (Some Audit) form refl)
   where
     no_audit_form : (form : Option Form) → form ≡ Some Audit → IsFalse (is_audit form) → ⊥
     no_audit_form form is other = absurd cc
 
     no_reader : (form : Option Form) → form ≡ Some Audit → IsFalse (reads_description form) → ⊥
     no_reader form is other = absurd cc
+
+-- words that ask for a load, with its number
+pub asked_load : (form : Option Form) (N : ℕ) → load_of form ≡ Some N → form ≡ Some (Load N)
+asked_load (Some (Load M)) N is = ap (λ (o : Option ℕ). Some (Load (unwrap_or o N))) is
+asked_load None N is = absurd cc
+asked_load (Some (Run pass)) N is = absurd cc
+asked_load (Some Audit) N is = absurd cc
+asked_load (Some (Paths from to flags)) N is = absurd cc
+
+-- words that ask for a load read nothing
+pub with_load : (call : Call) (N : ℕ) (status : Status) (made : Option Made) → form_of call.words ≡ Some (Load N) → N < 2 ^ 32
+    → HasOutcome call status made → call.now.desc ≡ call.before.desc → call.now.report ≡ call.before.report
+    → Ends call.answer status (load_report N status made) call.before.out call.now.out → Promises call
+with_load call N status made form small has unread rest ends =
+    promises call
+    (record {
+      story = record { status = status; made = made; contact = has.contact };
+      entries = 0;
+      outcome = has.outcome;
+      counted = rw form tt;
+      ends = rw form ends;
+    })
+    (record {
+      wires = λ other. absurd (asks_no_move (form_of call.words) form other);
+      unaudited = λ other. rest;
+      unread = λ other. unread;
+      read = none_read read_limit call.before.desc call.now.desc unread;
+      report_read = none_read report_limit call.before.report call.now.report rest;
+    })
+    (λ number load quiet.
+    let same : N ≡ number = ap (λ (form : Option Form). unwrap_or (load_of form) 0) (sym form ∙ load) in
+    subst (λ (number : ℕ). EndsLoad number call ⊎ RanOut call) same
+    (let p = by_end call status _ ends quiet in
+    load_ends call N status made has.contact form small has.outcome p.1 p.0))
+  where
+    asks_no_move : (form : Option Form) → form ≡ Some (Load N) → IsFalse (is_run form) → ⊥
+    asks_no_move form is other = cc

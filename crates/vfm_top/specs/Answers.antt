@@ -10,7 +10,7 @@ use Rattle.vfm_text.specs.Prints.{IsCut}
 use Rattle.vfm_desc.specs.Described.{description_of}
 use Rattle.vfm_audit.specs.Audited.{IsAuditOf}
 use Rattle.vfm_top.specs.declared.words.Form.{Form}
-use Rattle.vfm_top.specs.declared.words.Form.TheVariants.{Run, Audit}
+use Rattle.vfm_top.specs.declared.words.Form.TheVariants.{Run, Load, Audit}
 use Rattle.vfm_status.specs.declared.status.Doubt.{Doubt}
 use Rattle.vfm_status.specs.declared.status.Status.{Status}
 use Rattle.vfm_status.specs.declared.status.Status.TheVariants.{Moved, Printed, BadWords, BadDescription, ReadFault, WriteFault, LinkFault, Refused, Unconfirmed, InDoubt, Differs, Aborted, ArcFailed, NoControl, NoMemory}
@@ -20,19 +20,15 @@ use Rattle.vfm_move.specs.Headline.{IsOneRun, HasItsStates, EndsWith}
 use Rattle.vfm_move.specs.Causes.{Story}
 use Rattle.vfm_move.specs.Move as migrating
 use Rattle.vfm_top.specs.Table.{Reached}
-use Rattle.vfm_top.specs.Call.{Call, attempt_in, bytes_read, read_limit, report_limit, HasReadFault, HasReportFault, HasWriteFault, IsPrefixRead}
-use Rattle.vfm_top.specs.Text.{report, text}
+use Rattle.vfm_top.specs.Call.{Call, attempt_in, bytes_read, read_limit, report_limit, HasReadFault, HasReportFault, HasWriteFault, IsPrefixRead, IsPrinted}
+use Rattle.vfm_top.specs.Text.{moved_text, text}
+use Rattle.vfm_top.specs.Load.{EndsLoad, RanOut}
 use Rattle.vfm_top.specs.Causes.{is_run, is_audit, pass_of, reads_description, IsExplained, IsAsked, Brings, OfReport}
 
 -- what holds of a call that made a source: a move of the machine that was asked for
 pub record IsMoveOf (call : Call) (story : Story) (made : Made) : Type 0 where
   pub asked : IsAsked call made.desc
   pub move_of : migrating.IsMoveOf (attempt_in call (pass_of (form_of call.words))) story made
-
--- this text was written wholly, and no write failed
-pub record IsPrinted (text : List ℕ) (before now : SinkTells) : Type 0 where
-  pub written : now.holds ≡ with_appended before.holds text
-  pub faults : now.faults ≡ before.faults
 
 -- a write failed, and a prefix of this text was written
 pub record IsBrokenOff (text : List ℕ) (before now : SinkTells) : Type 0 where
@@ -76,14 +72,14 @@ pub record LeavesRest (call : Call) : Type 0 where
   pub read : IsPrefixRead read_limit call.before.desc call.now.desc
   pub report_read : IsPrefixRead report_limit call.before.report call.now.report
 
--- where a machine is after a call that printed a report of it: with this owner
+-- where a machine is after a call that printed a report of it, or the summary of a load: with this owner
 pub record LeavesMachine (owner : Owner) (call : Call) : Type 0 where
   pub made : Made
   pub asked : IsAsked call made.desc
   pub run : IsOneRun made
   pub states : HasItsStates made
   pub kept : EndsWith owner made
-  pub printed : IsPrinted (report call.answer (Some made)) call.before.out call.now.out
+  pub printed : IsPrinted (moved_text (form_of call.words) call.answer (Some made)) call.before.out call.now.out
 
 -- an answer before which the source went on
 abbrev pub is_refusal : Status → Bool
@@ -124,6 +120,9 @@ pub record Means (call : Call) : Type 0 where
   pub refuses : (pass : ℕ) (fault : DescFault) → form_of call.words ≡ Some (Run pass)
       → IsSomeAnd (bytes_read call) (λ read. description_of read ≡ Err fault)
       → (HasReadFault call → ⊥) → (HasWriteFault call → ⊥) → (call.answer ≡ BadDescription fault) ⊎ (call.answer ≡ NoMemory)
+  -- A generated load ends with one machine, whose sums and digest are printed, at either end; where neither runs, those of the
+  -- machine at the joint stop are. Or memory ran out before a source was made.
+  pub loads : (number : ℕ) → form_of call.words ≡ Some (Load number) → (HasWriteFault call → ⊥) → EndsLoad number call ⊎ RanOut call
   -- a report that an audit finds legal is that of one run, with the states of that run
   pub legal : form_of call.words ≡ Some Audit → call.answer ≡ Printed → OfReport call IsLegalReport
   -- what can be seen to bring a status brings it, or memory ran out, where no read or write failed

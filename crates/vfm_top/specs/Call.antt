@@ -1,6 +1,6 @@
 -- A call of `run`: its words, what the objects outside show before it and after it, and its answer.
 use Rattle.std.specs.Prelude.{◌≡◌, ℕ, ◌≤◌, List, length, take, drop, Option, IfSome, option_map}
-use Rattle.vfm_outside.specs.Told.{with_prepended}
+use Rattle.vfm_outside.specs.Told.{with_appended, with_prepended}
 use Rattle.vfm_outside.specs.Counts.{Rose}
 use Rattle.vfm_outside.specs.Tells.{SourceTells, SinkTells, WiresTell}
 use Rattle.vfm_status.specs.declared.status.Status.{Status}
@@ -61,6 +61,11 @@ HasReportFault call = Rose call.before.report.faults call.now.report.faults
 -- a failed write was counted
 abbrev pub HasWriteFault : Call → Type 0
 HasWriteFault call = Rose call.before.out.faults call.now.out.faults
+
+-- this text was written wholly, and no write failed
+pub record IsPrinted (text : List ℕ) (before now : SinkTells) : Type 0 where
+  pub written : now.holds ≡ with_appended before.holds text
+  pub faults : now.faults ≡ before.faults
 
 -- the first bytes of a source were read, at most so many
 pub record IsPrefixRead (most : ℕ) (before now : SourceTells) : Type 0 where

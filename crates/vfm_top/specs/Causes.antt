@@ -8,14 +8,15 @@ use Rattle.vfm_types.specs.declared.state.PathFault.{PathFault}
 use Rattle.vfm_types.specs.Paths.{path_of}
 use Rattle.vfm_types.specs.Valid.{IsValid}
 use Rattle.vfm_plain.specs.Report.{Made, journal}
+use Rattle.vfm_loads.specs.Generated.{generated}
 use Rattle.vfm_desc.specs.Described.{description_of}
 use Rattle.vfm_report.specs.Printed.{IsPrinted}
 use Rattle.vfm_audit.specs.Audited.{IsAuditOf}
 use Rattle.vfm_audit.specs.declared.fault.ReportFault.TheVariants.{Broken as RuleBroken, StateDiffers as OtherState}
 use Rattle.vfm_top.specs.declared.words.Form.{Form}
-use Rattle.vfm_top.specs.declared.words.Form.TheVariants.{Run, Audit, Paths}
+use Rattle.vfm_top.specs.declared.words.Form.TheVariants.{Run, Load, Audit, Paths}
 use Rattle.vfm_status.specs.declared.status.Status.{Status}
-use Rattle.vfm_status.specs.declared.status.Status.TheVariants.{Printed, BadWords, BadDescription, ReadFault, NoMemory, PathRefused, Broken, BadReport, StateDiffers}
+use Rattle.vfm_status.specs.declared.status.Status.TheVariants.{Printed, BadWords, BadDescription, ReadFault, NoMemory, PathRefused, Broken, BadReport, StateDiffers, Aborted, ArcFailed}
 use Rattle.vfm_top.specs.Form.{form_of}
 use Rattle.vfm_move.specs.Causes as migrating
 use Rattle.vfm_move.specs.Causes.{Story, YieldsTo}
@@ -25,12 +26,18 @@ use Rattle.vfm_top.specs.Sources.{IsShortReport, IsBadReport}
 -- the words ask for a move
 abbrev pub is_run : Option Form → Bool
 is_run (Some (Run pass)) = true
+is_run (Some (Load number)) = true
 is_run _ = false
 
 -- the pass after whose end the source is to give up, 0 for none
 abbrev pub pass_of : Option Form → ℕ
 pass_of (Some (Run pass)) = pass
 pass_of _ = 0
+
+-- the number of the generated load that the words ask for, if they do
+abbrev pub load_of : Option Form → Option ℕ
+load_of (Some (Load number)) = Some number
+load_of _ = None
 
 -- the words ask for an audit
 abbrev pub is_audit : Option Form → Bool
@@ -76,6 +83,13 @@ MoveCause pass ReadFault call story = HasReadFault call
 MoveCause pass NoMemory call story = ⊤
 MoveCause pass status call story = OfDescription call (λ answer. IsOk answer) × migrating.HasCause status (attempt_in call pass) story
 
+-- Why a status comes to a call that asks for a generated load: what the migration of that came to. Its devices fail no arc, and
+-- its source is never to give up.
+abbrev pub LoadCause : Status → Call → Story → Type 0
+LoadCause (ArcFailed d to) call story = ⊥
+LoadCause (Aborted pass) call story = ⊥
+LoadCause status call story = migrating.HasCause status (attempt_in call 0) story
+
 -- why a status comes to a call that asks for an audit
 abbrev pub AuditCause : Status → Call → Type 0
 AuditCause Printed call = OfReport call (λ made. IsAuditOf made (Ok (length (journal made))))
@@ -97,6 +111,7 @@ PathCause answer status = ⊥
 abbrev pub CauseOf : Option Form → Status → Call → Story → Type 0
 CauseOf None status call story = status ≡ BadWords
 CauseOf (Some (Run pass)) status call story = MoveCause pass status call story
+CauseOf (Some (Load number)) status call story = LoadCause status call story
 CauseOf (Some Audit) status call story = AuditCause status call
 CauseOf (Some (Paths from to flags)) status call story = PathCause (path_of from to flags) status
 
@@ -134,12 +149,14 @@ abbrev pub BringsOf : Option Form → Status → Call → Type 0
 BringsOf None status call = status ≡ BadWords
 BringsOf (Some (Run pass)) (BadDescription fault) call = OfShownBytes call (λ answer. answer ≡ Err fault)
 BringsOf (Some (Run pass)) status call = ⊥
+BringsOf (Some (Load number)) status call = ⊥
 BringsOf (Some Audit) status call = AuditBrings status call
 BringsOf (Some (Paths from to flags)) status call = PathCause (path_of from to flags) status
 
 -- what a migration brings for sure, to words that ask for one
 abbrev pub MoveBrings : Option Form → Status → Call → Story → Type 0
 MoveBrings (Some (Run pass)) status call story = migrating.Brings status (attempt_in call pass) story
+MoveBrings (Some (Load number)) status call story = migrating.Brings status (attempt_in call 0) story
 MoveBrings form status call story = ⊥
 
 abbrev pub Brings : Status → Call → Type 0
@@ -159,6 +176,11 @@ pub record IsExplained (call : Call) (story : Story) : Type 0 where
   pub exact_move : (brought : Status) → MoveBrings (form_of call.words) brought call story
       → (story.status ≡ brought) ⊎ YieldsTo brought story.status
 
--- the machine is the one that the words ask for, where the description's source shows its bytes
+-- The machine is the one that the words ask for: that of a generated load; or the described one, where the description's source
+-- shows its bytes.
+abbrev pub AskedBy : Option Form → Call → Desc → Type 0
+AskedBy (Some (Load number)) call D = D ≡ generated number
+AskedBy form call D = IfSome (bytes_read call) (λ read. description_of read ≡ Ok D)
+
 abbrev pub IsAsked : Call → Desc → Type 0
-IsAsked call D = IfSome (bytes_read call) (λ read. description_of read ≡ Ok D)
+IsAsked call D = AskedBy (form_of call.words) call D

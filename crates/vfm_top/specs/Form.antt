@@ -4,8 +4,9 @@ use Rattle.std.specs.Cmp.Lexicographic.{pointwise}
 use Rattle.vfm_types.specs.declared.state.MigState.{MigState}
 use Rattle.vfm_types.specs.declared.state.MigState.TheVariants.{Error, Stop, Running, StopCopy, Resuming, RunningP2p, PreCopy, PreCopyP2p}
 use Rattle.vfm_plain.specs.Text.{state_name}
+use Rattle.vfm_report.specs.Numbers.{number_of}
 use Rattle.vfm_top.specs.declared.words.Form.{Form}
-use Rattle.vfm_top.specs.declared.words.Form.TheVariants.{Run, Audit, Paths}
+use Rattle.vfm_top.specs.declared.words.Form.TheVariants.{Run, Load, Audit, Paths}
 
 -- two texts are the same
 abbrev pub same_text : List ℕ → List ℕ → Bool
@@ -45,6 +46,14 @@ pass_named _ = None
 abbrev pub run_form : List ℕ → List ℕ → Option Form
 run_form command file = if same_text command (codes "run") then (if length file == 0 then None else Some (Run 0)) else None
 
+-- the form `load N`, with a number of 32 bits, decimal without a leading zero
+abbrev pub load_form : List ℕ → Option Form
+load_form number = option_map Load (number_of number)
+
+-- the forms of two words
+abbrev pub two_words_form : List ℕ → List ℕ → Option Form
+two_words_form command word = if same_text command (codes "load") then load_form word else run_form command word
+
 -- the form `run FILE abort N`, with any word that isn't empty: the source is to give up once pass N has ended
 abbrev pub abort_form : List ℕ → List ℕ → List ℕ → List ℕ → Option Form
 abort_form command file abort pass =
@@ -57,11 +66,11 @@ audit_form command file report =
     if same_text command (codes "audit") then
     (if length file == 0 then None else (if length report == 0 then None else Some Audit)) else None
 
--- The form of these words, if they have one: `run FILE`, `run FILE abort N`, `audit FILE REPORT` or `paths FROM TO FLAGS`.
+-- The form of these words, if they have one: `run FILE`, `load N`, `run FILE abort N`, `audit FILE REPORT` or `paths FROM TO FLAGS`.
 abbrev pub form_of : List (List ℕ) → Option Form
 form_of [] = None
 form_of (command ∷ []) = None
-form_of (command ∷ file ∷ []) = run_form command file
+form_of (command ∷ word ∷ []) = two_words_form command word
 form_of (command ∷ file ∷ report ∷ []) = audit_form command file report
 form_of (command ∷ from ∷ to ∷ flags ∷ []) =
     if same_text command (codes "paths") then paths_form (state_named from) (state_named to) (flags_named flags)

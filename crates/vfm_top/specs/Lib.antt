@@ -4,5 +4,6 @@ pub mod Call
 pub mod Sources
 pub mod Text
 pub mod Causes
+pub mod Load
 pub mod Answers
 pub mod Outcome

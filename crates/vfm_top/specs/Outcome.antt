@@ -1,9 +1,13 @@
 -- What came of a description, and of which calls that is the outcome.
-use Rattle.std.specs.Prelude.{◌≡◌, ℕ, ◌<◌, Option, Some, None, IfSome}
+use Rattle.std.specs.Prelude.{◌≡◌, ℕ, ◌<◌, ◌^◌, Bool, true, false, Option, Some, None, IfSome, option_map}
 use Rattle.vfm_types.specs.Desc.{device_count}
 use Rattle.vfm_outside.specs.Tells.{SourceTells, WiresTell}
 use Rattle.vfm_plain.specs.Report.{Made}
+use Rattle.vfm_types.specs.Machine.{Machine}
 use Rattle.vfm_core.specs.CoreState.{CoreState}
+use Rattle.vfm_core.specs.Machines.{machine_in}
+use Rattle.vfm_move.specs.Move.{joint_in}
+use Rattle.vfm_move.specs.Table.{Owner, TookOver, Neither, WentOn}
 use Rattle.vfm_source.specs.Moving.{past_in}
 use Rattle.vfm_source.specs.Source.{MoverState, Moves}
 use Rattle.vfm_dest.specs.StagedCores.{StagedState}
@@ -11,8 +15,8 @@ use Rattle.vfm_status.specs.declared.status.Status.{Status}
 use Rattle.vfm_move.specs.Contact.{Contact, Untouched}
 use Rattle.vfm_move.specs.Causes.{Story}
 use Rattle.vfm_migrate.specs.declared.migration.Migration.{Migration}
-use Rattle.vfm_migrate.specs.Migrations.{made_in}
-use Rattle.vfm_top.specs.declared.words.Form.TheVariants.{Run, Audit}
+use Rattle.vfm_migrate.specs.Migrations.{last_core, made_in}
+use Rattle.vfm_top.specs.declared.words.Form.TheVariants.{Run, Load, Audit}
 use Rattle.vfm_top.specs.declared.outcome.Outcome.{Outcome}
 use Rattle.vfm_top.specs.declared.outcome.Outcome.TheVariants.{Undescribed, Migrated}
 use Rattle.vfm_top.specs.Form.{form_of}
@@ -48,6 +52,18 @@ abbrev pub IsPrintable : Outcome → Type 0
 IsPrintable (Undescribed status) = Unit {0}
 IsPrintable (Migrated migration) = IsPrintableMigration migration
 
+-- neither end has the machine
+abbrev pub is_neither : Owner → Bool
+is_neither Neither = true
+is_neither TookOver = false
+is_neither WentOn = false
+
+-- the machine that is summed up of a migration with this source: the one at the end, or where neither end runs the one at the
+-- joint stop
+abbrev pub last_machine : Owner → MoverState → Option CoreState → Option Machine
+last_machine Neither source taken = joint_in source.core.desc (past_in source.core)
+last_machine owner source taken = option_map (λ core. machine_in core.world) (last_core owner source.core taken)
+
 -- a call came to this status and to what was made, whatever came of the wires
 pub record HasOutcome (call : Call) (status : Status) (made : Option Made) : Type 0 where
   pub contact : Contact
@@ -69,6 +85,15 @@ pub record IsCallOver (pass : ℕ) (old new : MoveTells) (call : Call) : Type 0 
   pub now : call.now.desc ≡ new.desc
   pub wires_before : call.before.wires ≡ old.wires
   pub wires_now : call.now.wires ≡ new.wires
+  pub unaudited : call.now.report ≡ call.before.report
+
+-- A call that asks for load N, leaves both sources alone, and whose wires told this before it and after it.
+pub record IsLoadOver (number : ℕ) (old new : WiresTell) (call : Call) : Type 0 where
+  pub asked : form_of call.words ≡ Some (Load number)
+  pub small : number < 2 ^ 32
+  pub wires_before : call.before.wires ≡ old
+  pub wires_now : call.now.wires ≡ new
+  pub unread : call.now.desc ≡ call.before.desc
   pub unaudited : call.now.report ≡ call.before.report
 
 -- what both sources show at one moment

@@ -11,9 +11,10 @@ ghost use Rattle.vfm_types.specs.Paths.{path_of};
 
 use crate::Status;
 use crate::audited::audit_sources;
-use crate::outcome::outcome_of_source;
+use crate::outcome::{outcome_of_load, outcome_of_source};
 use crate::print::{print_audit, print_line, print_outcome, print_path};
-use crate::words::{Form, abort_after, read_words};
+use crate::summary::print_load;
+use crate::words::{Form, abort_after, load_number, read_words};
 use std::alloc::Global;
 use std::sync::Wait;
 use std::thread::Threads;
@@ -54,6 +55,7 @@ pub fn local<D: Source, R: Source, S: Sink>(
         Form::Paths { from, to, flags } => Some(answer_path(from, to, flags, out)),
         Form::Audit => Some(print_audit(audit_sources(alloc, desc, report), out)),
         Form::Run { abort_after: _ } => None,
+        Form::Load { number: _ } => None,
     }
 }
 
@@ -61,12 +63,13 @@ pub fn local<D: Source, R: Source, S: Sink>(
 ///
 /// The words, without the program's name, are `run FILE`, which migrates the machine that `desc` describes over `wires` and
 /// prints the report; `run FILE abort N`, with N from 1 to 9, which does the same, but the source gives up once pass N has
-/// ended; `audit FILE REPORT`, which audits what `report` gives as the report of a run of that machine; or
+/// ended; `load N`, with N from 0 to 4,294,967,295 in decimal without a leading zero, which migrates the machine of generated
+/// load N and prints its summary; `audit FILE REPORT`, which audits what `report` gives as the report of a run of that machine; or
 /// `paths FROM TO FLAGS`, which prints a path between device states. Others are `BadWords`. A description is read to its
 /// end or up to 16,777,217 bytes, by `run` and `audit` alone, and a report to its end or up to 134,217,729 bytes, by
 /// `audit` alone; a failed read is `ReadFault`, whatever another read would give. `wires` are asked for links once at most,
-/// by `run` alone, and get them back before anything is printed. Where a write to `out` fails, the answer is `WriteFault`,
-/// and `out` has a prefix of the text. `beat` is told of the attempts of the destination's workers.
+/// by `run` and `load` alone, and get them back before anything is printed. Where a write to `out` fails, the answer is
+/// `WriteFault`, and `out` has a prefix of the text. `beat` is told of the attempts of the destination's workers.
 pub fn run<H: Threads + Wait + Sync, D: Source, R: Source, S: Sink, W: Wires, B: Beat + Sync>(
     rt: &H,
     alloc: Global,
@@ -86,9 +89,14 @@ pub fn run<H: Threads + Wait + Sync, D: Source, R: Source, S: Sink, W: Wires, B:
 {
     match local(alloc, words, desc, report, out) {
         Some(status) => status,
-        None => print_outcome(
-            outcome_of_source(rt, alloc, desc, wires, abort_after(words), beat),
-            out,
-        ),
+        None => match load_number(words) {
+            Some(number) => {
+                print_load(number, outcome_of_load(rt, alloc, number, wires, beat), out)
+            }
+            None => print_outcome(
+                outcome_of_source(rt, alloc, desc, wires, abort_after(words), beat),
+                out,
+            ),
+        },
     }
 }

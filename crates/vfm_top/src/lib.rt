@@ -7,6 +7,7 @@ mod description;
 mod line;
 mod outcome;
 mod print;
+mod summary;
 mod words;
 
 pub use call::{local, run};

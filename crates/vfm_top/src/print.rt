@@ -178,7 +178,7 @@ fn there(core: &Option<Core>) -> Option<&Core>
 }
 
 /// The core that has the machine at the end.
-fn last_core<'a>(
+pub fn last_core<'a>(
     status: &Status,
     source: &'a Core,
     taken_over: &'a Option<Core>,

@@ -94,6 +94,23 @@ fn report_of_one_alone(alloc: Global) -> Result<Vec<u8>, Fail> {
     Ok(text)
 }
 
+// With which every move of load 7 ends, whatever order its steps take.
+const LOAD_SEVEN: [&str; 5] = [
+    "load 7",
+    "accepted 8960",
+    "done 8960",
+    "lost 0",
+    "digest 1eccda489d7b23dc1e76d551d80ad07d2261b5e64345cdf6b7970b73acb780f0",
+];
+
+// What load 7 prints at a status.
+fn summary_of_seven(alloc: Global, status: &str) -> Result<Vec<u8>, Fail> {
+    let mut text = Vec::new(alloc);
+    add_lines(&mut text, &[status])?;
+    add_lines(&mut text, &LOAD_SEVEN)?;
+    Ok(text)
+}
+
 // Runs these words over rings, with a source of this text whose reads of these numbers fail.
 fn run_words<H: Threads + Wait + Sync>(
     rt: &H,
@@ -200,10 +217,40 @@ fn without_links_the_source_goes_on(rt: HostRuntime) -> Result<(), Fail> {
     Ok(())
 }
 
+// Its description's source, whose first read fails, isn't asked.
+#[test]
+fn a_load_is_moved(rt: HostRuntime) -> Result<(), Fail> {
+    let alloc = rt.alloc();
+    let mut out = ample(alloc)?;
+    let mut wires = RingWires::of(alloc, 4096, 0, Vec::new(alloc));
+    let status = run_over(&rt, alloc, &["load", "7"], "", &[0], &mut wires, &mut out)?;
+    assert_eq!(rt; number(&status), 0);
+    assert_eq!(rt;
+        out.bytes(),
+        summary_of_seven(alloc, "status moved")?.as_slice()
+    );
+    Ok(())
+}
+
+// It does all its requests at the source, and ends as it does at the destination.
+#[test]
+fn a_load_without_links_ends_alike(rt: HostRuntime) -> Result<(), Fail> {
+    let alloc = rt.alloc();
+    let mut out = ample(alloc)?;
+    let mut wires = ScriptWires::of(alloc, None);
+    let status = run_over(&rt, alloc, &["load", "7"], "", &[0], &mut wires, &mut out)?;
+    assert_eq!(rt; number(&status), 5);
+    assert_eq!(rt;
+        out.bytes(),
+        summary_of_seven(alloc, "status link-fault connect")?.as_slice()
+    );
+    Ok(())
+}
+
 #[test]
 fn words_without_a_form_are_refused(rt: HostRuntime) -> Result<(), Fail> {
     let alloc = rt.alloc();
-    let rows: [&[&str]; 12] = [
+    let rows: [&[&str]; 18] = [
         &["run", "x", "abort", "0"],
         &["run", "x", "abort", "10"],
         &["run", "x", "abort", ""],
@@ -213,7 +260,17 @@ fn words_without_a_form_are_refused(rt: HostRuntime) -> Result<(), Fail> {
         &["run"],
         &["run", ""],
         &["run", "x", "y"],
+        &["load"],
+        &["load", ""],
         &["load", "007"],
+        &["load", "4294967296"],
+        &["load", ""],
+        &["load", "+7"],
+        &["load", "7", "abort", "1"],
+        &["load", "+7"],
+        &["load", "4294967296"],
+        &["load", "18446744073709551623"],
+        &["load", "7", "abort", "1"],
         &["paths", "RUNNING", "STOP", "2"],
         &["paths", "RUNNINGS", "STOP", "1"],
     ];
@@ -314,5 +371,35 @@ fn a_failed_write_leaves_a_prefix(rt: HostRuntime) -> Result<(), Fail> {
         out.bytes(),
         b"status moved\njournal source\nissu".as_slice()
     );
+    Ok(())
+}
+
+// Each load with the sums that it ends with, and of one the digest, which comes from a second program.
+const LOADS: [(&str, &str); 3] = [
+    (
+        "0",
+        "status moved\nload 0\naccepted 8960\ndone 8960\nlost 0\ndigest ",
+    ),
+    (
+        "7",
+        "status moved\nload 7\naccepted 8960\ndone 8960\nlost 0\ndigest 1eccda489d7b23dc1e76d551d80ad07d2261b5e64345cdf6b7970b73acb780f0\n",
+    ),
+    (
+        "4294967295",
+        "status moved\nload 4294967295\naccepted 8960\ndone 8960\nlost 0\ndigest ",
+    ),
+];
+
+// A load reads nothing: the source that is passed fails at each read.
+#[test]
+fn loads_are_moved(rt: HostRuntime) -> Result<(), Fail> {
+    let alloc = rt.alloc();
+    for (load, text) in LOADS {
+        let mut out = ample(alloc)?;
+        let mut wires = RingWires::of(alloc, 4096, 0, Vec::new(alloc));
+        let status = run_over(&rt, alloc, &["load", load], "", &[0], &mut wires, &mut out)?;
+        assert_eq!(rt; number(&status), 0);
+        assert!(rt; out.bytes().starts_with(text.as_bytes()));
+    }
     Ok(())
 }

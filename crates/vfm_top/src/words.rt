@@ -1,10 +1,12 @@
 //! The forms of words.
 
 ghost use Rattle.std.specs.Prelude.{◌≡◌, map, string_bytes};
-ghost use Rattle.vfm_top.specs.Causes.{pass_of};
+ghost use Rattle.vfm_report.specs.Numbers.{long_number, number_of};
+ghost use Rattle.vfm_top.specs.Causes.{load_of, pass_of};
 ghost use Rattle.vfm_top.specs.Form.{same_text, state_named, flags_named, pass_named, form_of};
 ghost use Rattle.vfm_top.specs.Form as spec;
 
+use itoa::Buffer;
 use vfm_types::{Flags, MigState};
 
 /// What the words ask for.
@@ -14,6 +16,10 @@ pub enum Form {
     /// is never.
     Run {
         abort_after: u32,
+    },
+    /// `load N`: move the machine of generated load `number`.
+    Load {
+        number: u32,
     },
     /// `audit FILE REPORT`: audit the report of a run of the described machine.
     Audit,
@@ -128,6 +134,59 @@ fn run_abort(command: &String, file: &String, abort: &String, word: &String) -> 
     }
 }
 
+/// The number of 64 bits that a word writes: decimal, without a sign or a leading zero.
+fn long_number(word: &[u8]) -> Option<u64>
+    ensures { result ≡ long_number word.now }
+{
+    let text = match str::from_utf8(word) {
+        Ok(text) => text,
+        Err(_) => return None,
+    };
+    let number = match text.parse::<u64>() {
+        Ok(number) => number,
+        Err(_) => return None,
+    };
+    let mut digits = Buffer::new();
+    if digits.format(number).as_bytes() == word {
+        Some(number)
+    } else {
+        None
+    }
+}
+
+/// The number of 32 bits that a word writes.
+fn number(word: &[u8]) -> Option<u32>
+    ensures { result ≡ number_of word.now }
+{
+    let number = long_number(word)?;
+    if number <= 0xffff_ffff {
+        Some(number as u32)
+    } else {
+        None
+    }
+}
+
+/// The form `load N`.
+fn load(number_word: &String) -> Option<Form>
+    ensures { result ≡ spec.load_form (string_bytes number_word.now) }
+{
+    match number(number_word.as_bytes()) {
+        Some(number) => Some(Form::Load { number }),
+        None => None,
+    }
+}
+
+/// The form `load N` or `run FILE`.
+fn two_words(command: &String, word: &String) -> Option<Form>
+    ensures { result ≡ spec.two_words_form (string_bytes command.now) (string_bytes word.now) }
+{
+    if is_word(command, b"load") {
+        load(word)
+    } else {
+        run(command, word)
+    }
+}
+
 /// The form `audit FILE REPORT`.
 fn audit(command: &String, file: &String, report: &String) -> Option<Form>
     ensures { result ≡ spec.audit_form (string_bytes command.now) (string_bytes file.now) (string_bytes report.now) }
@@ -159,7 +218,7 @@ pub fn read_words(words: &[String]) -> Option<Form>
     ensures { result ≡ form_of (map string_bytes words.now) }
 {
     if words.len() == 2 {
-        return run(&words[0], &words[1]);
+        return two_words(&words[0], &words[1]);
     }
     if words.len() == 3 {
         return audit(&words[0], &words[1], &words[2]);
@@ -181,5 +240,15 @@ pub fn abort_after(words: &[String]) -> u32
     match read_words(words) {
         Some(Form::Run { abort_after }) => abort_after,
         _ => 0,
+    }
+}
+
+/// The number of the load that the words ask for, if they do.
+pub fn load_number(words: &[String]) -> Option<u32>
+    ensures { result ≡ load_of (form_of (map string_bytes words.now)) }
+{
+    match read_words(words) {
+        Some(Form::Load { number }) => Some(number),
+        _ => None,
     }
 }

@@ -1,15 +1,10 @@
 -- Each part is that of what was made.
 use Rattle.std.proofs.Common.{◌≡◌, ap, ◌∙◌, subst}
 use Rattle.std.specs.Prelude.{option_map}
-use Rattle.vfm_types.specs.declared.desc.Desc.{Desc}
-use Rattle.vfm_plain.specs.Shape.{HasShape}
 use Rattle.vfm_core.specs.CoreState.{CoreState}
-use Rattle.vfm_core.specs.Machines.{machine_in}
-use Rattle.vfm_dest.specs.StagedCores.{StagedState}
 use Rattle.vfm_source.specs.Moving.{past_in}
-use Rattle.vfm_text.specs.Parts.{made_of}
 use Rattle.vfm_move.specs.Table.{owner_at}
-use Rattle.vfm_migrate.specs.Migrations.{last_core, made_by}
+use Rattle.vfm_migrate.specs.Migrations.{last_core}
 use Rattle.vfm_top.proofs.Parts.{joint_same, last_desc, lent_same, machines_same, same_made, shapes}
 use Rattle.vfm_top.proofs.print.parts_of.Goals as goal
 

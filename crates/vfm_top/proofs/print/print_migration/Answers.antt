@@ -1,10 +1,10 @@
 -- The report of what was made.
-use Rattle.std.proofs.Common.{◌≡◌, ◌∙◌, Option, Some, ap, subst, sym}
+use Rattle.std.proofs.Common.{◌∙◌, Option, Some, ap, subst, sym}
 use Rattle.std.specs.Prelude.{option_map}
 use Rattle.vfm_plain.specs.Report.{Made}
 use Rattle.vfm_source.specs.Source.{MoverState}
 use Rattle.vfm_outside.specs.Tells.{sink_tells}
-use Rattle.vfm_migrate.specs.Migrations.{made_by, made_in}
+use Rattle.vfm_migrate.specs.Migrations.{made_by}
 use Rattle.vfm_top.specs.Answers.{Ends}
 use Rattle.vfm_top.specs.Text.{report}
 use Rattle.vfm_top.proofs.print.print_migration.Goals as goal
