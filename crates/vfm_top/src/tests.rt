@@ -263,10 +263,6 @@ fn words_without_a_form_are_refused(rt: HostRuntime) -> Result<(), Fail> {
         &["load"],
         &["load", ""],
         &["load", "007"],
-        &["load", "4294967296"],
-        &["load", ""],
-        &["load", "+7"],
-        &["load", "7", "abort", "1"],
         &["load", "+7"],
         &["load", "4294967296"],
         &["load", "18446744073709551623"],
@@ -371,35 +367,5 @@ fn a_failed_write_leaves_a_prefix(rt: HostRuntime) -> Result<(), Fail> {
         out.bytes(),
         b"status moved\njournal source\nissu".as_slice()
     );
-    Ok(())
-}
-
-// Each load with the sums that it ends with, and of one the digest, which comes from a second program.
-const LOADS: [(&str, &str); 3] = [
-    (
-        "0",
-        "status moved\nload 0\naccepted 8960\ndone 8960\nlost 0\ndigest ",
-    ),
-    (
-        "7",
-        "status moved\nload 7\naccepted 8960\ndone 8960\nlost 0\ndigest 1eccda489d7b23dc1e76d551d80ad07d2261b5e64345cdf6b7970b73acb780f0\n",
-    ),
-    (
-        "4294967295",
-        "status moved\nload 4294967295\naccepted 8960\ndone 8960\nlost 0\ndigest ",
-    ),
-];
-
-// A load reads nothing: the source that is passed fails at each read.
-#[test]
-fn loads_are_moved(rt: HostRuntime) -> Result<(), Fail> {
-    let alloc = rt.alloc();
-    for (load, text) in LOADS {
-        let mut out = ample(alloc)?;
-        let mut wires = RingWires::of(alloc, 4096, 0, Vec::new(alloc));
-        let status = run_over(&rt, alloc, &["load", load], "", &[0], &mut wires, &mut out)?;
-        assert_eq!(rt; number(&status), 0);
-        assert!(rt; out.bytes().starts_with(text.as_bytes()));
-    }
     Ok(())
 }
