@@ -3,3 +3,4 @@ pub mod Turns
 pub mod GroupHands
 pub mod Coordinators
 pub mod Seats
+pub mod CellLists

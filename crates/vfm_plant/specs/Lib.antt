@@ -4,3 +4,4 @@ pub mod Outcome
 pub mod Started
 pub mod Seat
 pub mod CellList
+pub mod Rooms

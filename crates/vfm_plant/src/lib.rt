@@ -8,7 +8,9 @@ mod device;
 mod group;
 mod hand;
 mod plant;
+mod rooms;
 mod seat;
+mod start;
 mod stepped;
 
 pub use plant::Plant;
