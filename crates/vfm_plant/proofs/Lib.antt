@@ -4,3 +4,5 @@ pub mod GroupHands
 pub mod Coordinators
 pub mod Seats
 pub mod CellLists
+pub mod Closings
+pub mod Closes

@@ -5,3 +5,4 @@ pub mod Started
 pub mod Seat
 pub mod CellList
 pub mod Rooms
+pub mod Closed

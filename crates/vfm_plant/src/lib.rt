@@ -3,6 +3,7 @@
 #![tactic(auto)]
 
 mod cells;
+mod close;
 mod coordinator;
 mod device;
 mod group;
