@@ -4,3 +4,5 @@ pub mod Outcome
 pub mod Started
 pub mod Seat
 pub mod CellList
+pub mod Rooms
+pub mod Closed

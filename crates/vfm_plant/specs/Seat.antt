@@ -4,7 +4,7 @@ use Rattle.vfm_types.specs.declared.desc.Desc.{Desc}
 use Rattle.vfm_types.specs.Desc.{device_count}
 use Rattle.vfm_turn.specs.declared.seen.Drawn.{Drawn}
 use Rattle.vfm_turn.specs.declared.seen.Past.{Past}
-use Rattle.vfm_turn.specs.Words.{IsTicketOf, holds_of, number_of, past_told, records_of}
+use Rattle.vfm_turn.specs.Words.{IsTicketOf, holds_of, number_of, past_told, records_of, seats_of}
 use Rattle.vfm_cells.specs.Cells.{Cell}
 use Rattle.vfm_cells.specs.WholeRun.{AreSteps}
 use Rattle.vfm_plant.specs.declared.plant.Plant.{Plant}
@@ -47,6 +47,8 @@ pub record IsSeatOf (plant : Plant) (seat : PlantSeat) : Type 0 where
   pub room : 64 ≤ vec_capacity seat.made
   pub hands : (seat.hands.items ≡ []) × (device_count plant.desc + 2 ≤ vec_capacity seat.hands)
   pub devices : (seat.devices.items ≡ []) × (device_count plant.desc ≤ vec_capacity seat.devices)
+  pub tickets : (seat.tickets.items ≡ []) × (seats_of plant.board ≤ vec_capacity seat.tickets)
+  pub lists : (seat.lists.items ≡ []) × (seats_of plant.board ≤ vec_capacity seat.lists)
 
 -- what is kept of an answer
 abbrev pub kept_of : Stepped → List Made

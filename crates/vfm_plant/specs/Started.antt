@@ -1,5 +1,6 @@
 -- The core that a plant was started with, and what a plant keeps.
-use Rattle.std.specs.Prelude.{◌≡◌, ℕ, ◌<◌, ◌^◌, length}
+use Rattle.std.specs.Prelude.{◌≡◌, ℕ, ◌<◌, ◌≤◌, ◌^◌, [], length, vec_capacity}
+use Rattle.vfm_types.specs.Desc.{device_count}
 use Rattle.vfm_types.specs.Valid.{IsValid}
 use Rattle.vfm_turn.specs.Words.{cells_of, desc_of, started_of}
 use Rattle.vfm_cells.specs.Cells.{Cell, cell_count}
@@ -26,3 +27,5 @@ pub record IsPlant (plant : Plant) : Type 0 where
   pub wrote : plant.began.value.journal ≡ plant.journal
   pub kept : IsKeptApart plant.began.value
   pub began : AreCellsOf plant.desc (started_core plant).world (started_of (λ (part : Cell). part) plant.board)
+  pub devices : (plant.devices.items ≡ []) × (device_count plant.desc ≤ vec_capacity plant.devices)
+  pub pages : (plant.pages.items ≡ []) × (plant.desc.pages ≤ vec_capacity plant.pages)

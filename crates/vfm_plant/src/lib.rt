@@ -3,12 +3,15 @@
 #![tactic(auto)]
 
 mod cells;
+mod close;
 mod coordinator;
 mod device;
 mod group;
 mod hand;
 mod plant;
+mod rooms;
 mod seat;
+mod start;
 mod stepped;
 
 pub use plant::Plant;

@@ -3,6 +3,7 @@
 use std::snapshot::Snapshot;
 use vfm_cell_steps::Part;
 use vfm_core::Split;
+use vfm_device_part::{DevPart, PagePart};
 use vfm_journal::Journal;
 use vfm_turn::Board;
 use vfm_types::Desc;
@@ -16,4 +17,7 @@ pub struct Plant {
     pub(crate) journal: Journal,
     // the core that it was started with, in parts
     pub(crate) began: Snapshot<Split>,
+    // the emptied lists in which the parts came
+    pub(crate) devices: Vec<DevPart>,
+    pub(crate) pages: Vec<PagePart>,
 }

@@ -30,8 +30,9 @@ pub struct PlantSeat {
     // room for the cells that it holds during a call
     pub(crate) hands: Vec<Hand>,
     pub(crate) devices: Vec<DevPart>,
-    // the emptied list in which the tickets came; the first seat's has room for all
+    // room for all tickets, and for all lists of entries, when the plant is closed
     pub(crate) tickets: Vec<Ticket<Part>>,
+    pub(crate) lists: Vec<Vec<Made>>,
 }
 
 impl PlantSeat {
