@@ -24,7 +24,7 @@ list_back xs c1 c2 c3 lead devs pages all mine theirs none =
     let here : reverse mp ≡ c2 = ap (λ (ys : List Cell). ys ++ reverse mp) (sym none) ∙ theirs in
     let both : reverse (md ++ mp) ≡ c1 = reverse-append md mp ∙ (ap (λ (ys : List Cell). ys ++ reverse md) here ∙ mine) in
     let whole : reverse (lead_cell lead ∷ (md ++ mp)) ≡ reverse xs =
-        reverse-append (lead_cell lead ∷ []) (md ++ mp) ∙ (ap (λ (ys : List Cell). ys ++ lead_cell lead ∷ []) both ∙ sym all) in
+    reverse-append (lead_cell lead ∷ []) (md ++ mp) ∙ (ap (λ (ys : List Cell). ys ++ lead_cell lead ∷ []) both ∙ sym all) in
     sym (reverse-reverse (cell_list lead devs pages)) ∙ (ap reverse whole ∙ reverse-reverse xs)
 
 same_pages : (ps ps' : List (List ℕ)) → map page_cell ps ≡ map page_cell ps' → ps ≡ ps'

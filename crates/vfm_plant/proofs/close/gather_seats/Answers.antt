@@ -11,11 +11,11 @@ loop-seat-init c =
     let rest = c.pop.new.self.items in
     let seats = c.args.seats.items in
     let all : seats ≡ first ∷ reverse rest =
-        sym (reverse-reverse seats) ∙ (ap (λ (ss : List PlantSeat). reverse ss) (sym c.reverse.ensures.items ∙ c.in-Some.ensures.items) ∙ reverse-append rest (first ∷ [])) in
+    sym (reverse-reverse seats) ∙ (ap (λ (ss : List PlantSeat). reverse ss) (sym c.reverse.ensures.items ∙ c.in-Some.ensures.items) ∙ reverse-append rest (first ∷ [])) in
     let tickets = All-head (λ s. (s.tickets.items ≡ []) × (vec_len c.args.seats ≤ vec_capacity s.tickets)) first (reverse rest)
-        (subst (All (λ s. (s.tickets.items ≡ []) × (vec_len c.args.seats ≤ vec_capacity s.tickets))) all c.requires.tickets) in
+    (subst (All (λ s. (s.tickets.items ≡ []) × (vec_len c.args.seats ≤ vec_capacity s.tickets))) all c.requires.tickets) in
     let lists = All-head (λ s. (s.lists.items ≡ []) × (vec_len c.args.seats ≤ vec_capacity s.lists)) first (reverse rest)
-        (subst (All (λ s. (s.lists.items ≡ []) × (vec_len c.args.seats ≤ vec_capacity s.lists))) all c.requires.lists) in
+    (subst (All (λ s. (s.lists.items ≡ []) × (vec_len c.args.seats ≤ vec_capacity s.lists))) all c.requires.lists) in
     let fewer = c.in-Some.ensures.len in
     let turned = c.reverse.ensures.len in
     record {

@@ -50,7 +50,7 @@ write_down-requires c =
       told = (
         reverse (entries_of history.0),
         subst (λ (ls : List (List Made)). AreAtPlaces (length c.args.self.journal.entries) ls (reverse (entries_of history.0))) (sym items)
-        (closed_places c.args.self seats c.close-cells.result.items _ same c.requires.plant c.requires.seats history.0 history.1),
+            (closed_places c.args.self seats c.close-cells.result.items _ same c.requires.plant c.requires.seats history.0 history.1),
         closed_room c.args.self seats c.close-cells.result.items _ same c.requires.plant c.requires.seats history.0 history.1,
       );
     }
@@ -76,8 +76,8 @@ join-requires c =
     let ok = c.collect-lead.new.devices.ok.0 in
     let world = collected plant.desc v kept.fit cells c.collect-lead.result c.collect-lead.new.devices.items c.collect-lead.new.pages.items are c.collect-lead.ensures.cells (omega arith) in
     let written = c.write_down.ensures.written (reverse (entries_of log))
-        (subst (λ (ls : List (List Made)). AreAtPlaces (length plant.journal.entries) ls (reverse (entries_of log))) (sym items)
-        (closed_places plant seats cells _ same c.requires.plant c.requires.seats log history.1)) in
+    (subst (λ (ls : List (List Made)). AreAtPlaces (length plant.journal.entries) ls (reverse (entries_of log))) (sym items)
+    (closed_places plant seats cells _ same c.requires.plant c.requires.seats log history.1)) in
     subst (λ (x : World). IsKept plant.desc c.write_down.new.journal.entries c.write_down.new.journal.room x) world
     (subst (λ (n : ℕ). IsKept plant.desc c.write_down.new.journal.entries n v) (sym c.write_down.ensures.room)
     (subst (λ (es : List Entry). IsKept plant.desc es plant.journal.room v) (sym written) kept))
@@ -98,8 +98,8 @@ returns c =
     let ok = c.collect-lead.new.devices.ok.0 in
     let world = collected plant.desc v kept.fit cells c.collect-lead.result c.collect-lead.new.devices.items c.collect-lead.new.pages.items are c.collect-lead.ensures.cells (omega arith) in
     let written = c.write_down.ensures.written (reverse (entries_of log))
-        (subst (λ (ls : List (List Made)). AreAtPlaces (length plant.journal.entries) ls (reverse (entries_of log))) (sym items)
-        (closed_places plant seats cells _ same c.requires.plant c.requires.seats log history.1)) in
+    (subst (λ (ls : List (List Made)). AreAtPlaces (length plant.journal.entries) ls (reverse (entries_of log))) (sym items)
+    (closed_places plant seats cells _ same c.requires.plant c.requires.seats log history.1)) in
     record {
       log = log;
       run = closed_run plant seats cells _ same c.requires.plant c.requires.seats log history.1;
